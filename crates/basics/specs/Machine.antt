@@ -1,0 +1,6 @@
+-- Numbers of the machine.
+use Prim.Native.Nat.{ℕ}
+
+-- the largest u64
+abbrev pub largest : ℕ
+largest = 18_446_744_073_709_551_615

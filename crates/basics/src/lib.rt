@@ -1,0 +1,39 @@
+// What straight-line code is made of: a choice between two numbers, a difference and a sum that never wrap.
+ghost use mathlib.Core.Path.{_≡_};
+ghost use mathlib.Core.Bool.{cond};
+ghost use Prim.Native.Nat.{_+_, _-_, min};
+ghost use Rattle.basics.specs.Machine.{largest};
+
+const LARGEST: u64 = 18_446_744_073_709_551_615;
+
+pub fn select8(c: bool, a: u8, b: u8) -> u8
+    ensures { λ r. ⌜ r ≡ cond c a b ⌝ }
+{
+    if c { a } else { b }
+}
+
+pub fn select32(c: bool, a: u32, b: u32) -> u32
+    ensures { λ r. ⌜ r ≡ cond c a b ⌝ }
+{
+    if c { a } else { b }
+}
+
+pub fn select64(c: bool, a: u64, b: u64) -> u64
+    ensures { λ r. ⌜ r ≡ cond c a b ⌝ }
+{
+    if c { a } else { b }
+}
+
+// a less b, and 0 where b is more.
+pub fn less(a: u64, b: u64) -> u64
+    ensures { λ r. ⌜ r ≡ a - b ⌝ }
+{
+    if b <= a { a - b } else { 0 }
+}
+
+// a plus b, and the largest number where the sum is more.
+pub fn plus(a: u64, b: u64) -> u64
+    ensures { λ r. ⌜ r ≡ min (a + b) largest ⌝ }
+{
+    if a <= LARGEST - b { a + b } else { LARGEST }
+}
