@@ -1,0 +1,57 @@
+-- What holds of every lawful history: the accepted events of a list are one.
+use Prim.Native.Nat.{ℕ, _+_, _-_, _≤_, _<_}
+use mathlib.Core.Path.{_≡_, refl, ap, sym, _∙_}
+use mathlib.Core.Bool.{Bool, true, false, cond, or-false}
+use mathlib.Core.List.{List, [], _∷_}
+use native.Mathlib.Omega.{arith}
+use lib.Dec.{ltb, eqb}
+use lib.IntN.{ℤ, pos, subℕ, _-ℤ_}
+use lib.ListN.{length, getD}
+use borrow.Author.Tests.{eqb-true, ltb-false}
+use Rattle.basics.proofs.Cases.{on, on-eq}
+use Rattle.basics.proofs.Differences.{difference, less-more}
+use Rattle.rules.specs.declared.Event.{Event}
+use Rattle.rules.specs.declared.View.{View}
+use Rattle.rules.specs.Kinds.{bill, payment, depositPaid, payout}
+use Rattle.rules.specs.History.{History, is, amountIf, total}
+use Rattle.rules.specs.Receipts.{payments, known, returnable}
+use Rattle.rules.specs.Deposit.{held, moved}
+use Rattle.rules.specs.Money.{credited, credits, charged, owed}
+use Rattle.rules.specs.Sums.{lateCharges, feesCharged, returnedPayments}
+use Rattle.rules.specs.Table.{row7}
+use Rattle.rules.specs.Accepted.{viewOf, refusal, offered, acceptedAfter, accepted, Lawful}
+use Rattle.rules.proofs.Sums.{deposits, charged-parts}
+use Rattle.rules.proofs.Passed.{passed}
+
+-- ---- the accepted events of a list are lawful
+pub offered-lawful : (h : History) (e : Event) → Lawful h → Lawful (offered h e)
+offered-lawful h e l = on (eqb (refusal h e) 0) (λ q. rw q (eqb-true (refusal h e) 0 q, l)) (λ q. rw q l)
+
+pub after-lawful : (h : History) (es : List Event) → Lawful h → Lawful (acceptedAfter h es)
+after-lawful h [] l = l
+after-lawful h (e ∷ es) l = after-lawful (offered h e) es (offered-lawful h e l)
+
+pub accepted-lawful : (es : List Event) → Lawful (accepted es)
+accepted-lawful es = after-lawful [] es tt
+
+-- ---- P is a number: payouts are at most what was credited
+pub payout-fits : (v : View) (e : Event) → row7 v e ≡ false → e .kind ≡ payout → e .amount ≤ v .credits - v .charged
+payout-fits v e r z = ltb-false (v .credits - v .charged) (e .amount) (simp (z, or-false) at r)
+
+pub payouts : (h : History) → Lawful h → total payout h ≤ credited h
+payouts [] l = omega arith
+payouts (e ∷ h) l =
+    let ih = payouts h (l .1) in
+    let a = passed h e (l .0) .allowed in
+    on-eq (e .kind) payout
+    (λ q z. let f = payout-fits (viewOf h e) e (a .r7) z in simp z (omega arith))
+    (λ q z. simp q (omega arith))
+
+-- ---- the sum of demand 3: owed less held is bills, late charges, fees, returned payments and payouts, less payments and deposits paid
+pub money : (h : History) → Lawful h
+    → owed h -ℤ pos (held h)
+    ≡ subℕ (total bill h + lateCharges h + feesCharged h + returnedPayments h + total payout h) (total payment h + total depositPaid h)
+money h l =
+    less-more (charged h) (credits h) (held h)
+    ∙ difference (charged h) (credits h + held h) (total bill h + lateCharges h + feesCharged h + returnedPayments h + total payout h) (total payment h + total depositPaid h)
+    (omega (arith, deposits h, charged-parts h, payouts h l))

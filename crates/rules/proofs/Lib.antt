@@ -1,0 +1,9 @@
+pub mod Sums
+pub mod Ranged
+pub mod Passed
+pub mod Lawful
+pub mod Cut
+pub mod Events
+pub mod Paper
+pub mod Edges
+pub mod Marked

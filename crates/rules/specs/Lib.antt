@@ -1,0 +1,15 @@
+pub mod Kinds
+pub mod History
+pub mod Fees
+pub mod Receipts
+pub mod Deposit
+pub mod Money
+pub mod Service
+pub mod Notice
+pub mod Medical
+pub mod Arrangement
+pub mod Range
+pub mod Table
+pub mod Answer
+pub mod Accepted
+pub mod Sums

@@ -1,0 +1,122 @@
+// The words of the rules: an event, the service, an answer, a charge, and what the table of refusals looks at.
+// The rules themselves are in specs/, over lists of events alone; the table as code is the crate `table`.
+pub mod kinds;
+
+ghost use mathlib.Core.Path.{_≡_};
+ghost use Rattle.rules.specs.Service.{isOn, isOff, isClosed};
+ghost use Rattle.rules.specs.Answer.{numberOf, receiptOf};
+
+// One thing that happened to an account. specs/Kinds.antt names the sixteen kinds, specs/Range.antt the fields of each.
+pub struct Event {
+    pub kind: u8,
+    pub option: u8,
+    pub day: u32,
+    pub amount: u64,
+}
+
+// The ranges of an event's option and amount, both ends included.
+pub struct Fields {
+    pub option_from: u8,
+    pub option_to: u8,
+    pub amount_from: u64,
+    pub amount_to: u64,
+}
+
+pub enum Service {
+    On,
+    Off,
+    Closed,
+}
+
+// Accepted, with the receipt of a payment or 0; or refused with a number of the table.
+pub enum Answer {
+    Accepted(u64),
+    Refused(u8),
+}
+
+// A charge: its day, its amount, and the sum of all charges up to it (document 01: an item, a_k, C_k).
+pub struct Item {
+    pub day: u32,
+    pub amount: u64,
+    pub upto: u64,
+}
+
+// What the table looks at when one event is offered. An account makes one of its fields, the rules one of the history.
+pub struct View {
+    pub service: Service,
+    // all charges (document 01: C)
+    pub charged: u64,
+    // payments plus deposits moved
+    pub credited: u64,
+    // the same less payouts (document 01: P)
+    pub credits: u64,
+    // the payment of the receipt that the event names, 0 where it is not known or was returned
+    pub payment: u64,
+    pub held: u64,
+    pub required: u64,
+    pub earned: bool,
+    pub arrears: u64,
+    // a payment arrangement is in force (document 01: stands)
+    pub in_force: bool,
+    pub notice_live: bool,
+    pub notice_in_days: bool,
+    pub called: bool,
+    pub certified: bool,
+    pub approved: bool,
+    // how many items are open
+    pub open_count: u64,
+}
+
+impl Service {
+    pub fn is_on(self) -> bool
+        ensures { λ r. ⌜ r ≡ isOn self ⌝ }
+    {
+        match self {
+            Service::On => true,
+            Service::Off => false,
+            Service::Closed => false,
+        }
+    }
+
+    pub fn is_off(self) -> bool
+        ensures { λ r. ⌜ r ≡ isOff self ⌝ }
+    {
+        match self {
+            Service::On => false,
+            Service::Off => true,
+            Service::Closed => false,
+        }
+    }
+
+    pub fn is_closed(self) -> bool
+        ensures { λ r. ⌜ r ≡ isClosed self ⌝ }
+    {
+        match self {
+            Service::On => false,
+            Service::Off => false,
+            Service::Closed => true,
+        }
+    }
+}
+
+impl Answer {
+    // The number of the refusal, 0 for accepted.
+    pub fn number(self) -> u8
+        ensures { λ r. ⌜ r ≡ numberOf self ⌝ }
+    {
+        match self {
+            Answer::Accepted(_) => 0,
+            Answer::Refused(n) => n,
+        }
+    }
+
+    // The receipt that an accepted payment was given, 0 for every other answer.
+    pub fn receipt(self) -> u64
+        ensures { λ r. ⌜ r ≡ receiptOf self ⌝ }
+    {
+        match self {
+            Answer::Accepted(n) => n,
+            Answer::Refused(_) => 0,
+        }
+    }
+}
