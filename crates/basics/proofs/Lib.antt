@@ -1,2 +1,4 @@
 pub mod Cases
 pub mod Differences
+pub mod Lists
+pub mod Signed

@@ -241,6 +241,7 @@ certificates =
     ∷ ends "an earlier approval runs on" (b ++ (certificate 21 9 ∷ call 22 ∷ approval 22 9 ∷ approval 23 1 ∷ cut 25 ∷ [])) 0
     ∷ ends "a certificate voids the approvals before it" (b ++ (certificate 20 30 ∷ approval 21 30 ∷ certificate 22 1 ∷ call 22 ∷ cut 25 ∷ [])) 15
     ∷ ends "an approval after the last covers all" (b ++ (certificate 20 30 ∷ certificate 21 30 ∷ call 22 ∷ approval 22 4 ∷ cut 25 ∷ [])) 0
+    ∷ ends "a payment is no approval" (b ++ (certificate 21 9 ∷ call 22 ∷ payment 22 30 ∷ cut 25 ∷ [])) 15
     ∷ ends "a certificate bars no notice" (bill 0 6000 ∷ certificate 20 30 ∷ notice 20 ∷ []) 0
     ∷ []
 

@@ -1,7 +1,10 @@
+pub mod Days
+pub mod Items
 pub mod Sums
 pub mod Ranged
 pub mod Passed
 pub mod Lawful
+pub mod Bounds
 pub mod Cut
 pub mod Events
 pub mod Paper

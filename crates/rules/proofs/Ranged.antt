@@ -2,18 +2,14 @@
 use Prim.Native.Nat.{ℕ, _≤_}
 use mathlib.Core.Path.{_≡_, subst}
 use mathlib.Core.Bool.{true, _&&_}
-use lib.Dec.{leb}
 use lib.ListN.{getD}
-use borrow.Author.Tests.{leb-true}
-use Rattle.basics.proofs.Cases.{and-left, and-right}
+use borrow.Author.Tests.{eqb-true}
+use Rattle.basics.proofs.Cases.{and-left, and-right, at-most}
 use Rattle.rules.specs.declared.Event.{Event}
 use Rattle.rules.specs.declared.Fields.{Fields}
-use Rattle.rules.specs.History.{within}
+use Rattle.rules.specs.History.{is, within, amountIf}
 use Rattle.rules.specs.Range.{unknown, fields, fits, inRange}
-
-pub within-true : (a b t : ℕ) → within a b t ≡ true → (a ≤ t) × (t ≤ b)
-unfolding within
-within-true a b t e = (leb-true a t (and-left (leb a t) (leb t b) e), leb-true t b (and-right (leb a t) (leb t b) e))
+use Rattle.rules.proofs.Days.{within-true}
 
 pub record Within (f : Fields) (e : Event) : Type 0 where
   pub option-low : f .«option_from» ≤ e .option
@@ -31,3 +27,7 @@ fitting f e r =
 pub ranged : (k : ℕ) (e : Event) → inRange e ≡ true → e .kind ≡ k → Within (getD fields k unknown) e
 unfolding inRange
 ranged k e r z = fitting (getD fields k unknown) e (subst (λ n. fits (getD fields n unknown) e ≡ true) z r)
+
+-- the amount that an event of kind k brings, 0 of any other
+pub amount-if : (k : ℕ) (e : Event) → inRange e ≡ true → amountIf k e ≤ getD fields k unknown .«amount_to»
+amount-if k e r = at-most (is k e) (e .amount) _ (λ q. ranged k e r (eqb-true (e .kind) k q) .amount-high)

@@ -2,7 +2,7 @@
 use Prim.Native.Nat.{ℕ, _+_, _-_, _≤_}
 use mathlib.Core.Path.{_≡_, refl, ap}
 use mathlib.Core.Bool.{Bool, true, false, cond, _||_, true≢false}
-use mathlib.Core.List.{List, [], _∷_, _++_}
+use mathlib.Core.List.{[], _∷_}
 use native.Mathlib.Omega.{arith}
 use lib.ListN.{length}
 use Rattle.basics.proofs.Cases.{on, on-eq, or-left, or-right}
@@ -15,6 +15,7 @@ use Rattle.rules.specs.Receipts.{payments}
 use Rattle.rules.specs.Deposit.{moves, held, moved}
 use Rattle.rules.specs.Money.{credited, credits, creditBy, charges, charge, charged, items, sumOf}
 use Rattle.rules.specs.Sums.{sumBy, lateCharges, feesCharged, returnedPayments}
+use Rattle.rules.proofs.Items.{sum-append}
 
 -- ---- one more event
 -- the one law of the sums by kind
@@ -64,10 +65,6 @@ receipts [] = refl
 receipts (e ∷ h) = let ih = receipts h in on (is payment e) (λ q. rw q (omega arith)) (λ q. rw q (omega arith))
 
 -- ---- items
-sumOf-append : (f : Item → ℕ) (xs ys : List Item) → sumOf f (xs ++ ys) ≡ sumOf f xs + sumOf f ys
-sumOf-append f [] ys = omega arith
-sumOf-append f (x ∷ xs) ys = omega (arith, sumOf-append f xs ys)
-
 -- an event that makes no item charges nothing
 pub no-charge : (h : History) (e : Event) → charges e ≡ false → charge h e ≡ 0
 no-charge h e q =
@@ -86,5 +83,5 @@ charged-items [] = refl
 charged-items (e ∷ h) =
     let ih = charged-items h in
     on (charges e)
-    (λ q. rw (q, sumOf-append) (omega arith))
+    (λ q. rw (q, sum-append) (omega arith))
     (λ q. let z = no-charge h e q in rw q (omega arith))

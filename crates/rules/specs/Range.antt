@@ -1,11 +1,12 @@
 -- Row 3: each kind has its fields, in their ranges; a field that it does not name is 0.
-use Prim.Native.Nat.{ℕ}
-use mathlib.Core.Bool.{Bool, _&&_}
+use Prim.Native.Nat.{ℕ, _≤_}
+use mathlib.Core.Bool.{Bool, true, _&&_}
+use mathlib.Core.Path.{_≡_}
 use mathlib.Core.List.{List, [], _∷_}
 use lib.ListN.{getD}
 use Rattle.rules.specs.declared.Event.{Event}
 use Rattle.rules.specs.declared.Fields.{Fields}
-use Rattle.rules.specs.History.{within}
+use Rattle.rules.specs.History.{finalDay, within}
 
 -- the largest amount A
 abbrev pub mostAmount : ℕ
@@ -75,3 +76,8 @@ fits f e = within (f .«option_from») (f .«option_to») (e .option) && within 
 -- the kind is known, and its fields are in range
 unfoldable pub inRange : Event → Bool
 inRange e = fits (getD fields (e .kind) unknown) e
+
+-- an event that rows 1 and 3 let pass: its day and its fields are in range
+pub record WellFormed (e : Event) : Type 0 where
+  pub in-time : e .day ≤ finalDay
+  pub in-range : inRange e ≡ true

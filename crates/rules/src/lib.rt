@@ -3,6 +3,7 @@
 pub mod kinds;
 
 ghost use mathlib.Core.Path.{_≡_};
+ghost use Rattle.rules.specs.History.{within as Within};
 ghost use Rattle.rules.specs.Service.{isOn, isOff, isClosed};
 ghost use Rattle.rules.specs.Answer.{numberOf, receiptOf};
 
@@ -119,4 +120,11 @@ impl Answer {
             Answer::Refused(_) => 0,
         }
     }
+}
+
+// Whether t lies in the days from a to b, both of them included.
+pub fn within(a: u64, b: u64, t: u64) -> bool
+    ensures { λ r. ⌜ r ≡ Within a b t ⌝ }
+{
+    (a <= t) & (t <= b)
 }

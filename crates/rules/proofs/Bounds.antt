@@ -1,0 +1,177 @@
+-- The sizes that the table keeps: what holds of the numbers of every lawful history.
+use Prim.Native.Nat.{ℕ, zero, suc, _+_, _-_, _≤_, _<_, zero-le}
+use mathlib.Core.Path.{_≡_, refl, sym, _∙_}
+use mathlib.Core.Bool.{Bool, true, false, cond, not, _&&_, _||_, or-false, true≢false}
+use mathlib.Core.List.{[], _∷_}
+use native.Mathlib.Omega.{arith}
+use lib.Dec.{leb, ltb, eqb}
+use lib.ListN.{length, getD}
+use borrow.Author.Tests.{ltb-true, ltb-false, leb-false, eqb-false, ne-eqb}
+use Rattle.basics.proofs.Cases.{on, on-eq, and-left, and-right, or-left, or-right, picked}
+use Rattle.basics.proofs.Lists.{every-in}
+use Rattle.rules.specs.declared.Event.{Event}
+use Rattle.rules.specs.declared.View.{View}
+use Rattle.rules.specs.Kinds.{bill, payment, returnedPayment, fee, depositAsked, depositPaid, payout, arrangement, finalNotice, reconnection}
+use Rattle.rules.specs.History.{History, finalDay, is, within, lastPosted, since, amountIf, total}
+use Rattle.rules.specs.Fees.{fees, feeOf}
+use Rattle.rules.specs.Receipts.{payments, returned, known, returnable}
+use Rattle.rules.specs.Deposit.{moves, held, required, full, fullOn}
+use Rattle.rules.specs.Money.{credited, credits, creditBy, charges, charge, charged, due, items, arrears}
+use Rattle.rules.specs.Arrangement.{terms, paidSince, returnedSince}
+use Rattle.rules.specs.Range.{mostDeposit, inRange}
+use Rattle.rules.specs.Table.{limit, row6, row7}
+use Rattle.rules.specs.Accepted.{viewOf, Lawful}
+use Rattle.rules.proofs.Days.{Sorted, within-true}
+use Rattle.rules.proofs.Items.{sum-mono}
+use Rattle.rules.proofs.Sums.{total-since, newest-since, credited-step, no-charge, charged-items}
+use Rattle.rules.proofs.Ranged.{ranged}
+use Rattle.rules.proofs.Passed.{Passed, passed}
+
+-- ---- days
+pub sorted : (h : History) → Lawful h → Sorted h
+sorted [] w = tt
+sorted (e ∷ h) w = (passed h e (w .0) .in-order, sorted h (w .1))
+
+pub in-days : (h : History) → Lawful h → lastPosted h ≤ finalDay
+in-days [] w = zero-le
+in-days (e ∷ h) w = passed h e (w .0) .in-time
+
+-- ---- row 19: C, and payments plus deposits moved, are at most the limit
+pub charged-limit : (h : History) → Lawful h → charged h ≤ limit
+charged-limit [] w = zero-le
+charged-limit (e ∷ h) w =
+    let ih = charged-limit h (w .1) in
+    let r = or-left (charges e && ltb limit (charged h + charge h e)) _ (passed h e (w .0) .allowed .r19) in
+    on (charges e)
+    (λ q. ltb-false limit (charged h + charge h e) (rw q at r))
+    (λ q. let n = no-charge h e q in omega arith)
+
+no-credit : (held : ℕ) (e : Event) → (is payment e || moves e) ≡ false → creditBy held e ≡ 0
+no-credit held e q = simp (or-left (is payment e) (moves e) q, or-right (is payment e) (moves e) q)
+
+pub credited-limit : (h : History) → Lawful h → credited h ≤ limit
+credited-limit [] w = zero-le
+credited-limit (e ∷ h) w =
+    let ih = credited-limit h (w .1) in
+    let r = or-right (charges e && ltb limit (charged h + charge h e)) _ (passed h e (w .0) .allowed .r19) in
+    rw credited-step
+    (on (is payment e || moves e)
+    (λ q. ltb-false limit (credited h + creditBy (held h) e) (rw q at r))
+    (λ q. let n = no-credit (held h) e q in omega arith))
+
+-- arrears are at most C
+pub arrears-charged : (h : History) (t : ℕ) → arrears h t ≤ charged h
+arrears-charged h t =
+    let m = sum-mono (due (credits h) t) (λ x. x .amount) (λ x. on (leb (x .day + 20) t) (λ q. rw q (omega arith)) (λ q. rw q zero-le)) (items h) in
+    omega (arith, charged-items h)
+
+-- ---- every charge is above 0
+-- a fee, of each number from 1 to 7
+fee-above : (n : ℕ) → 1 ≤ n → n ≤ 7 → 0 < feeOf n
+fee-above zero p q = absurd (omega arith)
+fee-above (suc n) p q = ltb-true 0 (getD fees n 0) (every-in (ltb 0) fees n 0 (omega arith) refl)
+
+pub charge-above : (h : History) (e : Event) → inRange e ≡ true → charges e ≡ true → 0 < charge h e
+charge-above h e r c =
+    on-eq (e .kind) bill (λ _ z. let a = ranged bill e r z .amount-low in rw z (omega arith))
+    (λ p _. on-eq (e .kind) returnedPayment (λ _ z. rw z (omega arith))
+    (λ q _. on-eq (e .kind) fee (λ _ z. let a = ranged fee e r z in rw z (omega (arith, fee-above (e .option) (a .option-low) (omega arith))))
+    (λ s _. on-eq (e .kind) finalNotice (λ _ z. rw z (omega arith))
+    (λ u _. on-eq (e .kind) reconnection (λ _ z. let a = ranged reconnection e r z in rw z (omega (arith, fee-above (6 + e .option) (omega arith) (omega arith))))
+    (λ v _. absurd (true≢false (sym c ∙ simp (p, q, s, u, v))))))))
+
+-- ---- the deposit
+asked-over : (v : View) (e : Event) → row7 v e ≡ false → e .kind ≡ depositAsked → v .held < e .amount
+asked-over v e r z = leb-false (e .amount) (v .held) (simp (z, or-false) at r)
+
+paid-within : (v : View) (e : Event) → row7 v e ≡ false → e .kind ≡ depositPaid → e .amount ≤ v .required - v .held
+paid-within v e r z = ltb-false (v .required - v .held) (e .amount) (simp (z, or-false) at r)
+
+pub record Held (h : History) : Type 0 where
+  pub held-le : held h ≤ required h
+  pub required-le : required h ≤ mostDeposit
+  pub full-le : fullOn h ≤ finalDay
+
+pub held-in : (h : History) → Lawful h → Held h
+held-in [] w = record { held-le = zero-le; required-le = zero-le; full-le = zero-le }
+held-in (e ∷ h) w =
+    let k = held-in h (w .1) in
+    let p = passed h e (w .0) in
+    let day : fullOn (e ∷ h) ≤ finalDay = on (full h) (λ q. rw q (k .full-le)) (λ q. rw q (p .in-time)) in
+    let paid = total-since depositPaid moves e h in
+    let asked = newest-since depositAsked moves e h in
+    on (moves e)
+    (λ m. record { held-le = rw (paid, asked, m) zero-le; required-le = rw (asked, m) zero-le; full-le = day })
+    (λ m. on-eq (e .kind) depositAsked
+    (λ q z.
+    let a = asked-over (viewOf h e) e (p .allowed .r7) z in
+    let b = ranged depositAsked e (p .in-range) z .amount-high in
+    record { held-le = rw (paid, asked, z) (omega arith); required-le = rw (asked, z) (omega arith); full-le = day })
+    (λ q z. on-eq (e .kind) depositPaid
+    (λ r y.
+    let a = paid-within (viewOf h e) e (p .allowed .r7) y in
+    record { held-le = rw (paid, asked, y) (omega arith); required-le = rw (asked, y) (omega arith); full-le = day })
+    (λ r y. record { held-le = rw (paid, asked, m, q, r) (omega arith); required-le = rw (asked, m, q) (k .required-le); full-le = day })))
+
+-- ---- receipts
+-- the receipt of an accepted return is among the newest 32
+pub record Known (h : History) (r : ℕ) : Type 0 where
+  pub low : 1 ≤ r
+  pub high : r ≤ length (payments h)
+  pub near : length (payments h) < r + 32
+
+pub return-known : (h : History) (e : Event) → Passed h e → e .kind ≡ returnedPayment → Known h (e .amount)
+return-known h e p z =
+    let n = length (payments h) in
+    let r : eqb (returnable h (e .amount)) 0 ≡ false = rw z at (p .allowed .r6) in
+    let k = picked (known h (e .amount)) _ (eqb-false (returnable h (e .amount)) 0 r) in
+    let b = and-left (within 1 n (e .amount) && ltb (n - e .amount) 32) _ k in
+    let w = within-true 1 n (e .amount) (and-left (within 1 n (e .amount)) _ b) in
+    record { low = w .0; high = w .1; near = omega (arith, ltb-true (n - e .amount) 32 (and-right (within 1 n (e .amount)) _ b)) }
+
+-- no receipt past the count was returned
+pub not-yet : (h : History) → Lawful h → (r : ℕ) → length (payments h) < r → returned h r ≡ false
+not-yet [] w r p = refl
+not-yet (e ∷ h) w r p =
+    on-eq (e .kind) returnedPayment
+    (λ q z. let c = return-known h e (passed h e (w .0)) z in
+    let p′ : length (payments h) < r = rw z at p in
+    rw (q, ne-eqb (e .amount) r (omega arith)) (not-yet h (w .1) r p′))
+    (λ q z. rw q (not-yet h (w .1) r (on (is payment e) (λ t. let p′ = (rw t at p) in omega arith) (λ t. rw t at p))))
+
+-- each payment is 1 or more, so there are no more payments than cents
+payments-count : (h : History) → Lawful h → length (payments h) ≤ total payment h
+payments-count [] w = zero-le
+payments-count (e ∷ h) w =
+    let ih = payments-count h (w .1) in
+    on-eq (e .kind) payment
+    (λ q z. let a = ranged payment e (passed h e (w .0) .in-range) z .amount-low in rw q (omega arith))
+    (λ q z. rw q (omega arith))
+
+pub count-limit : (h : History) → Lawful h → length (payments h) ≤ limit
+count-limit h w = omega (arith, payments-count h w, credited-limit h w)
+
+-- ---- the arrangement
+pub debt-limit : (h : History) → Lawful h → terms h .debt ≤ limit
+debt-limit [] w = zero-le
+debt-limit (e ∷ h) w =
+    on (is arrangement e)
+    (λ q. rw q (omega (arith, arrears-charged h (e .day), charged-limit h (w .1))))
+    (λ q. rw q (debt-limit h (w .1)))
+
+paid-since : (h : History) → paidSince h ≤ total payment h
+paid-since [] = zero-le
+paid-since (e ∷ h) =
+    let ih = paid-since h in
+    rw (total-since payment (is arrangement) e h) (on (is arrangement e) (λ q. rw q zero-le) (λ q. rw q (omega arith)))
+
+pub paid-limit : (h : History) → Lawful h → paidSince h ≤ limit
+paid-limit h w = omega (arith, paid-since h, credited-limit h w)
+
+-- a returned payment is charged again
+returned-since : (h : History) → returnedSince h ≤ charged h
+returned-since [] = zero-le
+returned-since (e ∷ h) = let ih = returned-since h in on (is arrangement e) (λ q. rw q zero-le) (λ q. rw q (omega arith))
+
+pub returned-limit : (h : History) → Lawful h → returnedSince h ≤ limit
+returned-limit h w = omega (arith, returned-since h, charged-limit h w)
