@@ -1,0 +1,3 @@
+pub mod CallDays
+pub mod NewestNotice
+pub mod Law

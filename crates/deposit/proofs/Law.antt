@@ -1,0 +1,56 @@
+-- The law of the part: after a lawful history it answers what the rules say.
+use Prim.Native.Nat.{ℕ, _+_, _≤_}
+use mathlib.Core.Path.{_≡_, refl, sym, ap, _∙_}
+use mathlib.Core.Bool.{Bool, true, _&&_, and-assoc}
+use mathlib.Core.List.{[], _∷_}
+use native.Mathlib.Omega.{arith}
+use lib.Dec.{leb}
+use borrow.Author.Tests.{le-leb, leb-true}
+use Rattle.basics.proofs.Cases.{links}
+use Rattle.rules.specs.Kinds.{depositAsked, depositPaid}
+use Rattle.rules.specs.History.{History, finalDay, lastPosted}
+use Rattle.rules.specs.Deposit.{moves, held, required, full, fullOn, earned}
+use Rattle.rules.specs.Range.{mostDeposit}
+use Rattle.rules.specs.Accepted.{Lawful}
+use Rattle.rules.proofs.Sums.{total-since, newest-since}
+use Rattle.rules.proofs.Bounds.{sorted, in-days, held-in}
+use Rattle.deposit.specs.declared.Deposit.{Deposit}
+use Rattle.deposit.specs.Conduct.{conductOf, conductOk}
+use Rattle.deposit.specs.Deposit.{depositAfter, depositOf, earnedBy, depositOk, DepositFit}
+use Rattle.deposit.proofs.Windows.{kept, quiet-is}
+
+-- whatever the history, the part holds the rules' values
+deposit-is : (h : History) → depositOf h ≡ record { held = held h; required = required h; «full_on» = fullOn h; conduct = conductOf h }
+unfolding depositOf conductOf
+deposit-is [] = refl
+deposit-is (e ∷ h) =
+    ap (λ d. depositAfter d e) (deposit-is h)
+    ∙ rw (total-since depositPaid moves e h, newest-since depositAsked moves e h)
+
+conduct-ok : (h : History) → Lawful h → conductOk (conductOf h) ≡ true
+conduct-ok h w =
+    let k = kept h (sorted h w) in
+    let d = in-days h w in
+    simp (le-leb (conductOf h .first) (finalDay + 1) (omega arith), le-leb _ _ (k .two), le-leb _ _ (k .three), le-leb (conductOf h .cut) (finalDay + 1) (omega arith))
+
+pub record DepositLaw (h : History) : Type 0 where
+  pub held-is : depositOf h .held ≡ held h
+  pub required-is : depositOf h .required ≡ required h
+  pub earned-is : (t : ℕ) → lastPosted h ≤ t → earnedBy (depositOf h) t ≡ earned h t
+  pub passes : depositOk (depositOf h) ≡ true
+
+pub deposit-law : (h : History) → Lawful h → DepositLaw h
+deposit-law h w =
+    let k = held-in h w in
+    record {
+      held-is = rw (deposit-is h);
+      required-is = rw (deposit-is h);
+      earned-is = λ t l. rw (deposit-is h, quiet-is h t (sorted h w) l) (sym (and-assoc (full h && leb (fullOn h + 365) t) _ _));
+      passes = rw (deposit-is h) (simp (le-leb _ _ (k .held-le), le-leb _ _ (k .required-le), le-leb _ _ (k .full-le), conduct-ok h w));
+    }
+
+-- what the test tells
+pub deposit-fit : (d : Deposit) → depositOk d ≡ true → DepositFit d
+deposit-fit d e =
+    let r = links (leb (d .held) (d .required)) (leb (d .required) mostDeposit ∷ leb (d .«full_on») finalDay ∷ conductOk (d .conduct) ∷ []) e in
+    record { held-le = leb-true _ _ (r .0); required-le = leb-true _ _ (r .1 .0) }
