@@ -36,6 +36,7 @@ conduct-ok h w =
 pub record DepositLaw (h : History) : Type 0 where
   pub held-is : depositOf h .held ≡ held h
   pub required-is : depositOf h .required ≡ required h
+  pub full-is : depositOf h .«full_on» ≡ fullOn h
   pub earned-is : (t : ℕ) → lastPosted h ≤ t → earnedBy (depositOf h) t ≡ earned h t
   pub passes : depositOk (depositOf h) ≡ true
 
@@ -45,6 +46,7 @@ deposit-law h w =
     record {
       held-is = rw (deposit-is h);
       required-is = rw (deposit-is h);
+      full-is = rw (deposit-is h);
       earned-is = λ t l. rw (deposit-is h, quiet-is h t (sorted h w) l) (sym (and-assoc (full h && leb (fullOn h + 365) t) _ _));
       passes = rw (deposit-is h) (simp (le-leb _ _ (k .held-le), le-leb _ _ (k .required-le), le-leb _ _ (k .full-le), conduct-ok h w));
     }

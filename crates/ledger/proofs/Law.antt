@@ -9,7 +9,7 @@ use lib.IntN.{subℕ}
 use lib.ListN.{length, take, length-append}
 use borrow.Author.Tests.{ltb-true, ltb-false, lt-ltb, le-ltb, leb-false, le-leb}
 use Rattle.basics.specs.Lists.{pad, every}
-use Rattle.basics.proofs.Cases.{on, on-eq, on-lt}
+use Rattle.basics.proofs.Cases.{on, on-lt}
 use Rattle.basics.proofs.Lists.{All, all-append, all-more, all-every, take-pad}
 use Rattle.rules.specs.declared.Event.{Event}
 use Rattle.rules.specs.declared.Item.{Item}
@@ -23,7 +23,8 @@ use Rattle.rules.specs.Accepted.{viewOf, Lawful}
 use Rattle.rules.proofs.Items.{keep-append, keep-keep, keep-same, keep-short, every-keep, sum-keep}
 use Rattle.rules.proofs.Sums.{credited-step}
 use Rattle.rules.proofs.Passed.{passed}
-use Rattle.rules.proofs.Lawful.{payouts, payout-fits}
+use Rattle.rules.proofs.Room.{payout-in}
+use Rattle.rules.proofs.Lawful.{payouts}
 use Rattle.rules.proofs.Bounds.{charged-limit, credited-limit, charge-above}
 use Rattle.ledger.specs.declared.Ledger.{Ledger}
 use Rattle.ledger.specs.OpenItems.{zeroItem, isOpen, openWith, listed, small}
@@ -56,12 +57,8 @@ still : (h : History) (e : Event) → Lawful (e ∷ h) → (x : Item) → Sound 
 still h e w x p o =
     let b = ltb-true (credits (e ∷ h)) (x .upto) o in
     let n = payouts h (w .1) in
-    on-eq (e .kind) payout
-    (λ _ z.
-    let f = payout-fits (viewOf h e) e (passed h e (w .0) .allowed .r7) z in
-    let b′ = rw z at b in
-    lt-ltb (credits h) (x .upto) (omega arith))
-    (λ q _. let b′ = rw q at b in lt-ltb (credits h) (x .upto) (omega arith))
+    let f = payout-in (viewOf h e) e (passed h e (w .0) .allowed .r7) in
+    lt-ltb (credits h) (x .upto) (omega arith)
 
 -- ---- the stored form is the declared one
 abbrev kept : History → List Item

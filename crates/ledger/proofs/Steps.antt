@@ -5,23 +5,23 @@ use mathlib.Core.Bool.{Bool, true, false, cond, _&&_}
 use mathlib.Core.List.{List, [], _∷_, _++_, append-nil}
 use native.Mathlib.Omega.{arith}
 use lib.Dec.{leb, ltb}
-use lib.ListN.{length, take, getD, set, length-take, length-append}
-use lib.Seq.{length-take-le}
-use borrow.Author.Tests.{leb-true}
+use lib.ListN.{length, take, getD, set, length-take, length-append, List·getD-eq-default}
+use lib.Seq.{length-take-le, getD-take}
+use borrow.Author.Tests.{leb-true, le-leb}
 use Rattle.basics.specs.Lists.{pad, every}
 use Rattle.basics.proofs.Cases.{on, links}
-use Rattle.basics.proofs.Lists.{pad-set}
+use Rattle.basics.proofs.Lists.{take-pad, pad-set, every-append}
 use Rattle.rules.specs.declared.Event.{Event}
 use Rattle.rules.specs.declared.Item.{Item}
 use Rattle.rules.specs.Kinds.{payout}
 use Rattle.rules.specs.History.{amountIf}
 use Rattle.rules.specs.Money.{keep, sumOf, due}
 use Rattle.rules.specs.Table.{limit, mostOpen}
-use Rattle.rules.proofs.Items.{keep-append, keep-short, sum-step, sum-le, sum-take}
+use Rattle.rules.proofs.Items.{keep-append, keep-short, every-keep, sum-step, sum-le, sum-take}
 use Rattle.ledger.specs.declared.OpenItems.{OpenItems}
 use Rattle.ledger.specs.declared.Ledger.{Ledger}
 use Rattle.ledger.specs.OpenItems.{zeroItem, isOpen, openWith, listed, small, openOk, OpenFit}
-use Rattle.ledger.specs.Ledger.{ledgerWith, newItem, ledgerAfter, headOk, ledgerOk, LedgerFit}
+use Rattle.ledger.specs.Ledger.{ledgerWith, newItem, ledgerAfter, headOk, ledgerOk, LedgerFit, LedgerRoom}
 
 -- ---- arrears: each part is within the limit, so the sum of 64 fits
 due-le : (p t : ℕ) (x : Item) → small x ≡ true → due p t x ≤ limit
@@ -83,3 +83,35 @@ ledger-fit l e =
       paid-le = leb-true _ _ (r .1 .1 .0);
       items-fit = record { count-le = leb-true _ _ (o .0); items-le = o .1 .0 };
     }
+
+-- ---- the step keeps the test, where there is room for what the event adds
+new-short : (l : Ledger) (e : Event) (b : Bool) (c k : ℕ) → LedgerFit l → LedgerRoom l e b c k → length (listed (l .items) ++ newItem l e b c) ≤ mostOpen
+new-short l e b c k f r =
+    let s : length (listed (l .items)) ≤ l .items .count = rw length-take (omega arith) in
+    on b
+    (λ q. let n = r .count-room q in rw (q, length-append) (omega arith))
+    (λ q. rw (q, append-nil) (omega (arith, f .items-fit .count-le)))
+
+pub ledger-kept : (l : Ledger) (e : Event) (b : Bool) (c k : ℕ) → LedgerFit l → LedgerRoom l e b c k → LedgerFit (ledgerAfter l e b c k)
+unfolding ledgerAfter
+ledger-kept l e b c k f r =
+    let p = l .credited + k - (l .«paid_out» + amountIf payout e) in
+    let ys = listed (l .items) ++ newItem l e b c in
+    let n : length (keep (isOpen p) ys) ≤ mostOpen = omega (arith, keep-short (isOpen p) ys, new-short l e b c k f r) in
+    let s : every small ys ≡ true = rw (every-append, f .items-fit .items-le) (on b (λ q. rw (q, le-leb c limit (omega (arith, r .charged-room)))) (λ q. rw q)) in
+    record {
+      charged-le = r .charged-room;
+      credited-le = r .credited-room;
+      paid-le = r .paid-room;
+      items-fit = record { count-le = n; items-le = rw (take-pad mostOpen zeroItem (keep (isOpen p) ys) n) (every-keep small (isOpen p) ys s) };
+    }
+
+-- ---- item i
+pub past-count : (o : OpenItems) (i : ℕ) → o .count ≤ i → zeroItem ≡ getD (listed o) i zeroItem
+past-count o i h = sym (List·getD-eq-default (listed o) zeroItem {n = i} (rw length-take (omega arith)))
+
+pub past-slots : (o : OpenItems) (i : ℕ) → length (o .slots) ≡ 64 → 64 ≤ i → zeroItem ≡ getD (listed o) i zeroItem
+past-slots o i e h = sym (List·getD-eq-default (listed o) zeroItem {n = i} (rw length-take (omega arith)))
+
+pub in-count : (o : OpenItems) (i : ℕ) → i < o .count → getD (o .slots) i zeroItem ≡ getD (listed o) i zeroItem
+in-count o i h = sym (getD-take (o .count) (o .slots) i zeroItem h)

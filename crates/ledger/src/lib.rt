@@ -7,11 +7,11 @@ ghost use mathlib.Core.Bool.{true, cond};
 ghost use mathlib.Core.List.{List, [], _∷_, _++_};
 ghost use Prim.Native.Nat.{_-_, _≤_, _<_};
 ghost use lib.IntN.{subℕ};
-ghost use lib.ListN.{take};
+ghost use lib.ListN.{take, getD};
 ghost use Rattle.basics.specs.Lists.{every};
 ghost use Rattle.rules.specs.declared.Item.{Item as ItemT};
 ghost use Rattle.rules.specs.Money.{keep, sumOf, unpaid as unpaidOf, due as dueOf};
-ghost use Rattle.ledger.specs.OpenItems.{isOpen, listed, openWith, small, openOk, OpenFit};
+ghost use Rattle.ledger.specs.OpenItems.{zeroItem, isOpen, listed, openWith, small, openOk, OpenFit};
 ghost use Rattle.ledger.specs.Ledger.{noLedger, creditsBy, arrearsBy, ledgerAfter, headOk, ledgerOk, LedgerFit, LedgerRoom};
 
 // The open items in the order posted, in the first `count` places; the other places are 0.
@@ -30,7 +30,7 @@ pub struct Ledger {
 }
 
 // The unpaid part of an item, where credits come to p.
-fn unpaid(x: Item, p: u64) -> u64
+pub fn unpaid(x: Item, p: u64) -> u64
     ensures { λ r. ⌜ r ≡ unpaidOf p x ⌝ }
 {
     basics::lesser(x.amount, basics::less(x.upto, p))
@@ -106,6 +106,26 @@ impl OpenItems {
                 count: n,
             }
         }
+    }
+
+    // Item i, an item of 0 past the last.
+    fn at(self, i: usize) -> Item
+        ensures { λ r. ⌜ r ≡ getD (listed self) i zeroItem ⌝ }
+    {
+        let slots = self.slots;
+        let n = self.count;
+        let zero = Item {
+            day: 0,
+            amount: 0,
+            upto: 0,
+        };
+        if n <= i {
+            return zero;
+        }
+        if 64 <= i {
+            return zero;
+        }
+        slots[i]
     }
 
     // The unpaid parts of those that are delinquent on day t.
@@ -199,6 +219,22 @@ impl Ledger {
         ensures { λ r. ⌜ r ≡ creditsBy self ⌝ }
     {
         basics::less(self.credited, self.paid_out)
+    }
+
+    // How many items are open.
+    pub fn open_count(self) -> u64
+        ensures { λ r. ⌜ r ≡ self .items .count ⌝ }
+    {
+        let items = self.items;
+        items.count as u64
+    }
+
+    // Open item i, from 0 in the order posted; an item of 0 past the last.
+    pub fn item(self, i: usize) -> Item
+        ensures { λ r. ⌜ r ≡ getD (listed (self .items)) i zeroItem ⌝ }
+    {
+        let items = self.items;
+        items.at(i)
     }
 
     // What is owed, negative where there is credit.

@@ -6,8 +6,9 @@ use mathlib.Core.List.{[], _∷_}
 use native.Mathlib.Omega.{arith}
 use lib.Dec.{leb, ltb, eqb}
 use lib.ListN.{length, getD}
-use borrow.Author.Tests.{ltb-true, ltb-false, leb-false, eqb-false, ne-eqb}
-use Rattle.basics.proofs.Cases.{on, on-eq, and-left, and-right, or-left, or-right, picked}
+use borrow.Author.Tests.{lt-ltb, ltb-true, ltb-false, leb-false, eqb-false, ne-eqb}
+use Rattle.basics.proofs.Cases.{on, on-eq, and-left, and-right, picked}
+use Rattle.basics.specs.Lists.{every}
 use Rattle.basics.proofs.Lists.{every-in}
 use Rattle.rules.specs.declared.Event.{Event}
 use Rattle.rules.specs.declared.View.{View}
@@ -16,16 +17,17 @@ use Rattle.rules.specs.History.{History, finalDay, is, within, lastPoste
 use Rattle.rules.specs.Fees.{fees, feeOf}
 use Rattle.rules.specs.Receipts.{payments, returned, known, returnable}
 use Rattle.rules.specs.Deposit.{moves, held, required, full, fullOn}
-use Rattle.rules.specs.Money.{credited, credits, creditBy, charges, charge, charged, due, items, arrears}
+use Rattle.rules.specs.Money.{credited, credits, charges, charge, charged, due, items, arrears}
 use Rattle.rules.specs.Arrangement.{terms, paidSince, returnedSince}
 use Rattle.rules.specs.Range.{mostDeposit, inRange}
 use Rattle.rules.specs.Table.{limit, row6, row7}
 use Rattle.rules.specs.Accepted.{viewOf, Lawful}
 use Rattle.rules.proofs.Days.{Sorted, within-true}
 use Rattle.rules.proofs.Items.{sum-mono}
-use Rattle.rules.proofs.Sums.{total-since, newest-since, credited-step, no-charge, charged-items}
+use Rattle.rules.proofs.Sums.{total-since, newest-since, credited-step, charged-items}
 use Rattle.rules.proofs.Ranged.{ranged}
 use Rattle.rules.proofs.Passed.{Passed, passed}
+use Rattle.rules.proofs.Room.{room}
 
 -- ---- days
 pub sorted : (h : History) → Lawful h → Sorted h
@@ -36,28 +38,23 @@ pub in-days : (h : History) → Lawful h → lastPosted h ≤ finalDay
 in-days [] w = zero-le
 in-days (e ∷ h) w = passed h e (w .0) .in-time
 
--- ---- row 19: C, and payments plus deposits moved, are at most the limit
-pub charged-limit : (h : History) → Lawful h → charged h ≤ limit
-charged-limit [] w = zero-le
-charged-limit (e ∷ h) w =
-    let ih = charged-limit h (w .1) in
-    let r = or-left (charges e && ltb limit (charged h + charge h e)) _ (passed h e (w .0) .allowed .r19) in
-    on (charges e)
-    (λ q. ltb-false limit (charged h + charge h e) (rw q at r))
-    (λ q. let n = no-charge h e q in omega arith)
+-- ---- C, and payments plus deposits moved, are at most the limit
+record Limits (h : History) : Type 0 where
+  charged-le : charged h ≤ limit
+  credited-le : credited h ≤ limit
 
-no-credit : (held : ℕ) (e : Event) → (is payment e || moves e) ≡ false → creditBy held e ≡ 0
-no-credit held e q = simp (or-left (is payment e) (moves e) q, or-right (is payment e) (moves e) q)
+limits : (h : History) → Lawful h → Limits h
+limits [] w = record { charged-le = zero-le; credited-le = zero-le }
+limits (e ∷ h) w =
+    let k = limits h (w .1) in
+    let r = room (viewOf h e) e (passed h e (w .0) .allowed) (k .charged-le) (k .credited-le) in
+    record { charged-le = r .charged-room; credited-le = rw credited-step (r .credited-room) }
+
+pub charged-limit : (h : History) → Lawful h → charged h ≤ limit
+charged-limit h w = limits h w .charged-le
 
 pub credited-limit : (h : History) → Lawful h → credited h ≤ limit
-credited-limit [] w = zero-le
-credited-limit (e ∷ h) w =
-    let ih = credited-limit h (w .1) in
-    let r = or-right (charges e && ltb limit (charged h + charge h e)) _ (passed h e (w .0) .allowed .r19) in
-    rw credited-step
-    (on (is payment e || moves e)
-    (λ q. ltb-false limit (credited h + creditBy (held h) e) (rw q at r))
-    (λ q. let n = no-credit (held h) e q in omega arith))
+credited-limit h w = limits h w .credited-le
 
 -- arrears are at most C
 pub arrears-charged : (h : History) (t : ℕ) → arrears h t ≤ charged h
@@ -150,6 +147,25 @@ payments-count (e ∷ h) w =
 
 pub count-limit : (h : History) → Lawful h → length (payments h) ≤ limit
 count-limit h w = omega (arith, payments-count h w, credited-limit h w)
+
+-- every payment is above 0, so that 0 can stand for a receipt that is not known
+payments-above : (h : History) → Lawful h → every (ltb 0) (payments h) ≡ true
+payments-above [] w = refl
+payments-above (e ∷ h) w =
+    let ih = payments-above h (w .1) in
+    on-eq (e .kind) payment
+    (λ q z. rw (q, lt-ltb 0 (e .amount) (ranged payment e (passed h e (w .0) .in-range) z .amount-low)) ih)
+    (λ q z. rw q ih)
+
+pub known-is : (h : History) → Lawful h → (r : ℕ) → known h r ≡ ltb 0 (returnable h r)
+known-is h w r =
+    let n = length (payments h) in
+    on (known h r)
+    (λ k.
+    let b = and-left (within 1 n r && ltb (n - r) 32) _ k in
+    let v = within-true 1 n r (and-left (within 1 n r) _ b) in
+    rw (k, every-in (ltb 0) (payments h) (n - r) 0 (omega arith) (payments-above h w)))
+    (λ k. rw k)
 
 -- ---- the arrangement
 pub debt-limit : (h : History) → Lawful h → terms h .debt ≤ limit

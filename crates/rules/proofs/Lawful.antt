@@ -22,6 +22,7 @@ use Rattle.rules.specs.Table.{row7}
 use Rattle.rules.specs.Accepted.{viewOf, refusal, offered, acceptedAfter, accepted, Lawful}
 use Rattle.rules.proofs.Sums.{deposits, charged-parts}
 use Rattle.rules.proofs.Passed.{passed}
+use Rattle.rules.proofs.Room.{payout-in}
 
 -- ---- the accepted events of a list are lawful
 pub offered-lawful : (h : History) (e : Event) → Lawful h → Lawful (offered h e)
@@ -35,17 +36,12 @@ pub accepted-lawful : (es : List Event) → Lawful (accepted es)
 accepted-lawful es = after-lawful [] es tt
 
 -- ---- P is a number: payouts are at most what was credited
-pub payout-fits : (v : View) (e : Event) → row7 v e ≡ false → e .kind ≡ payout → e .amount ≤ v .credits - v .charged
-payout-fits v e r z = ltb-false (v .credits - v .charged) (e .amount) (simp (z, or-false) at r)
-
 pub payouts : (h : History) → Lawful h → total payout h ≤ credited h
 payouts [] l = omega arith
 payouts (e ∷ h) l =
     let ih = payouts h (l .1) in
-    let a = passed h e (l .0) .allowed in
-    on-eq (e .kind) payout
-    (λ q z. let f = payout-fits (viewOf h e) e (a .r7) z in simp z (omega arith))
-    (λ q z. simp q (omega arith))
+    let f = payout-in (viewOf h e) e (passed h e (l .0) .allowed .r7) in
+    omega arith
 
 -- ---- the sum of demand 3: owed less held is bills, late charges, fees, returned payments and payouts, less payments and deposits paid
 pub money : (h : History) → Lawful h

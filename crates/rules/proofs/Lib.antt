@@ -3,6 +3,7 @@ pub mod Items
 pub mod Sums
 pub mod Ranged
 pub mod Passed
+pub mod Room
 pub mod Lawful
 pub mod Bounds
 pub mod Cut

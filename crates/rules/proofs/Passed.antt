@@ -40,7 +40,7 @@ pub record Passed (h : History) (e : Event) : Type 0 where
   pub allowed : Allowed (viewOf h e) e
 
 -- of a choice that gives 0, where the first part is no 0: it was not taken, and the other is 0
-skipped : (b : Bool) (n rest : ℕ) → (n ≡ 0 → ⊥) → cond b n rest ≡ 0 → (b ≡ false) × (rest ≡ 0)
+pub skipped : (b : Bool) (n rest : ℕ) → (n ≡ 0 → ⊥) → cond b n rest ≡ 0 → (b ≡ false) × (rest ≡ 0)
 skipped true n rest z e = absurd (z e)
 skipped false n rest z e = (refl, e)
 

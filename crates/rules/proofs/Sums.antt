@@ -11,9 +11,9 @@ use Rattle.rules.specs.declared.Item.{Item}
 use Rattle.rules.specs.Kinds.{bill, payment, returnedPayment, fee, depositPaid, finalNotice, reconnection}
 use Rattle.rules.specs.History.{History, is, count, since, amountIf, total, newest}
 use Rattle.rules.specs.Fees.{feeOf, feeNumber}
-use Rattle.rules.specs.Receipts.{payments}
+use Rattle.rules.specs.Receipts.{payments, returnable}
 use Rattle.rules.specs.Deposit.{moves, held, moved}
-use Rattle.rules.specs.Money.{credited, credits, creditBy, charges, charge, charged, items, sumOf}
+use Rattle.rules.specs.Money.{credited, credits, creditBy, charges, chargeBy, charge, charged, items, sumOf}
 use Rattle.rules.specs.Sums.{sumBy, lateCharges, feesCharged, returnedPayments}
 use Rattle.rules.proofs.Items.{sum-append}
 
@@ -66,16 +66,20 @@ receipts (e ∷ h) = let ih = receipts h in on (is payment e) (λ q. rw q (omega
 
 -- ---- items
 -- an event that makes no item charges nothing
-pub no-charge : (h : History) (e : Event) → charges e ≡ false → charge h e ≡ 0
-no-charge h e q =
+pub no-charge : (c p r : ℕ) (e : Event) → charges e ≡ false → chargeBy c p r e ≡ 0
+no-charge c p r e q =
     let b = is bill e in
-    let r = b || is returnedPayment e in
-    let f = r || is fee e in
+    let m = b || is returnedPayment e in
+    let f = m || is fee e in
     let n = f || is finalNotice e in
     let qn = or-left n (is reconnection e) q in
     let qf = or-left f (is finalNotice e) qn in
-    let qr = or-left r (is fee e) qf in
-    simp (or-left b (is returnedPayment e) qr, or-right b (is returnedPayment e) qr, or-right r (is fee e) qf, or-right f (is finalNotice e) qn, or-right n (is reconnection e) q)
+    let qm = or-left m (is fee e) qf in
+    simp (or-left b (is returnedPayment e) qm, or-right b (is returnedPayment e) qm, or-right m (is fee e) qf, or-right f (is finalNotice e) qn, or-right n (is reconnection e) q)
+
+-- an event that is no payment and moves no deposit credits nothing
+pub no-credit : (held : ℕ) (e : Event) → (is payment e || moves e) ≡ false → creditBy held e ≡ 0
+no-credit held e q = simp (or-left (is payment e) (moves e) q, or-right (is payment e) (moves e) q)
 
 -- C is the sum of the items' amounts
 pub charged-items : (h : History) → sumOf (λ x. x .amount) (items h) ≡ charged h
@@ -84,4 +88,4 @@ charged-items (e ∷ h) =
     let ih = charged-items h in
     on (charges e)
     (λ q. rw (q, sum-append) (omega arith))
-    (λ q. let z = no-charge h e q in rw q (omega arith))
+    (λ q. let z : charge h e ≡ 0 = no-charge (charged h) (credits h) (returnable h (e .amount)) e q in rw q (omega arith))

@@ -60,7 +60,7 @@ abbrev pub acceptedAfter : History → List Event → History
 acceptedAfter h [] = h
 acceptedAfter h (e ∷ es) = acceptedAfter (offered h e) es
 
--- the accepted events of a list that is posted to a fresh account
+-- the accepted events of a list, from its first event on
 abbrev pub accepted : List Event → History
 accepted es = acceptedAfter [] es
 
@@ -82,7 +82,7 @@ abbrev pub answersAfter : History → List Event → List Answer
 answersAfter h [] = []
 answersAfter h (e ∷ es) = answer h e ∷ answersAfter (offered h e) es
 
--- the answers to a list that is posted to a fresh account
+-- the answers to a list, from its first event on
 abbrev pub answersBy : List Event → List Answer
 answersBy es = answersAfter [] es
 

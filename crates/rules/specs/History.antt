@@ -5,7 +5,7 @@ use mathlib.Core.List.{List, [], _∷_}
 use lib.Dec.{leb, eqb}
 use Rattle.rules.specs.declared.Event.{Event}
 
--- `e ∷ h` is "h, and then e"; no events is a fresh account
+-- `e ∷ h` is "h, and then e"; `[]` is before the first event
 abbrev pub History : Type 0
 History = List Event
 

@@ -1,8 +1,10 @@
-// Row 3: the kind is known, its fields are in range, and the fields that it does not name are 0.
+// Rows 1 to 3, which concern every event: its day, and its fields; unknown kinds too. A field that a kind does not name is 0.
 use rules::Event;
 use rules::Fields;
 ghost use mathlib.Core.Path.{_≡_};
+ghost use mathlib.Core.Bool.{cond, not};
 ghost use Rattle.rules.specs.Range.{inRange};
+ghost use Rattle.rules.specs.Accepted.{dayRows};
 
 const UNKNOWN: Fields = Fields {
     option_from: 1,
@@ -101,4 +103,20 @@ pub fn in_range(e: Event) -> bool
     let f = FIELDS[k];
     ((f.option_from <= e.option) & (e.option <= f.option_to))
         & ((f.amount_from <= e.amount) & (e.amount <= f.amount_to))
+}
+
+// 1 or 2: day t is past the last day, or before `last`, the day of the last accepted event; 0 where neither refuses.
+pub fn day_row(last: u32, t: u32) -> u8
+    ensures { λ r. ⌜ r ≡ dayRows last t 0 ⌝ }
+{
+    basics::select8(73_048 < t, 1, basics::select8(t < last, 2, 0))
+}
+
+// 1 to 3: the day, then the fields; 0 where none of them refuses.
+pub fn first_row(last: u32, e: Event) -> u8
+    ensures { λ r. ⌜ r ≡ dayRows last (e .day) (cond (not (inRange e)) 3 0) ⌝ }
+{
+    let t = e.day;
+    let three = basics::select8(!in_range(e), 3, 0);
+    basics::select8(73_048 < t, 1, basics::select8(t < last, 2, three))
 }
