@@ -1,4 +1,5 @@
-// The table of refusals as code: the range of an event's fields (row 3), the amounts that an event moves, and rows 4 to 19.
+// The table of refusals as code: rows 1 to 3, which look at an event alone and the last day, the amounts that an event
+// moves, and rows 4 to 19, which look at a View.
 // Every function is total: it takes any View and any Event, and its contract is an equation with the rules' definition.
 pub mod amounts;
 pub mod fees;

@@ -22,7 +22,14 @@ select8-requires-3 c κs = search needs
 
 returns : tie.Need-returns
 returns c =
-    rw (c .select83 .ensures, c .before .row9 .ensures, c .before .before .select82 .ensures, c .before .before .before .row10 .ensures, c .before .before .before .before .select8 .ensures, c .before .before .before .before .before .row11 .ensures)
+    rw (
+      c .select83 .ensures,
+      c .before .row9 .ensures,
+      c .before .before .select82 .ensures,
+      c .before .before .before .row10 .ensures,
+      c .before .before .before .before .select8 .ensures,
+      c .before .before .before .before .before .row11 .ensures,
+    )
 
 pub arrears-rows-spec : {M : Type 1} → statement M
 arrears-rows-spec =

@@ -28,7 +28,16 @@ select8-requires-4 c κs = search needs
 
 returns : tie.Need-returns
 returns c =
-    rw (c .select84 .ensures, c .before .row16 .ensures, c .before .before .select83 .ensures, c .before .before .before .row17 .ensures, c .before .before .before .before .select82 .ensures, c .before .before .before .before .before .row18 .ensures, c .before .before .before .before .before .before .select8 .ensures, c .before .before .before .before .before .before .before .row19 .ensures)
+    rw (
+      c .select84 .ensures,
+      c .before .row16 .ensures,
+      c .before .before .select83 .ensures,
+      c .before .before .before .row17 .ensures,
+      c .before .before .before .before .select82 .ensures,
+      c .before .before .before .before .before .row18 .ensures,
+      c .before .before .before .before .before .before .select8 .ensures,
+      c .before .before .before .before .before .before .before .row19 .ensures,
+    )
 
 pub bounding-rows-spec : {M : Type 1} → statement M
 bounding-rows-spec =

@@ -28,7 +28,16 @@ select8-requires-4 c κs = search needs
 
 returns : tie.Need-returns
 returns c =
-    rw (c .select84 .ensures, c .before .row12 .ensures, c .before .before .select83 .ensures, c .before .before .before .row13 .ensures, c .before .before .before .before .select82 .ensures, c .before .before .before .before .before .row14 .ensures, c .before .before .before .before .before .before .select8 .ensures, c .before .before .before .before .before .before .before .row15 .ensures)
+    rw (
+      c .select84 .ensures,
+      c .before .row12 .ensures,
+      c .before .before .select83 .ensures,
+      c .before .before .before .row13 .ensures,
+      c .before .before .before .before .select82 .ensures,
+      c .before .before .before .before .before .row14 .ensures,
+      c .before .before .before .before .before .before .select8 .ensures,
+      c .before .before .before .before .before .before .before .row15 .ensures,
+    )
 
 pub disconnection-rows-spec : {M : Type 1} → statement M
 disconnection-rows-spec =

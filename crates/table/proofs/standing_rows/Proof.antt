@@ -34,7 +34,18 @@ select8-requires-5 c κs = search needs
 
 returns : tie.Need-returns
 returns c =
-    rw (c .select85 .ensures, c .before .row4 .ensures, c .before .before .select84 .ensures, c .before .before .before .row5 .ensures, c .before .before .before .before .select83 .ensures, c .before .before .before .before .before .row6 .ensures, c .before .before .before .before .before .before .select82 .ensures, c .before .before .before .before .before .before .before .row7 .ensures, c .before .before .before .before .before .before .before .before .select8 .ensures, c .before .before .before .before .before .before .before .before .before .row8 .ensures)
+    rw (
+      c .select85 .ensures,
+      c .before .row4 .ensures,
+      c .before .before .select84 .ensures,
+      c .before .before .before .row5 .ensures,
+      c .before .before .before .before .select83 .ensures,
+      c .before .before .before .before .before .row6 .ensures,
+      c .before .before .before .before .before .before .select82 .ensures,
+      c .before .before .before .before .before .before .before .row7 .ensures,
+      c .before .before .before .before .before .before .before .before .select8 .ensures,
+      c .before .before .before .before .before .before .before .before .before .row8 .ensures,
+    )
 
 pub standing-rows-spec : {M : Type 1} → statement M
 standing-rows-spec =

@@ -33,7 +33,17 @@ plus-requires-3 c κs = search needs
 returns : tie.Need-returns
 returns c =
     let start = c .before .before .before .before .before .before .before .before .before in
-    rw (c .plus3 .ensures, c .before .fee .ensures, c .before .before .fee-number .ensures, c .before .before .before .plus2 .ensures, c .before .before .before .before .select642 .ensures, c .before .before .before .before .before .select64 .ensures, c .before .before .before .before .before .before .plus .ensures, c .before .before .before .before .before .before .before .late-charge .ensures, c .before .before .before .before .before .before .before .before .less .ensures)
+    rw (
+      c .plus3 .ensures,
+      c .before .fee .ensures,
+      c .before .before .fee-number .ensures,
+      c .before .before .before .plus2 .ensures,
+      c .before .before .before .before .select642 .ensures,
+      c .before .before .before .before .before .select64 .ensures,
+      c .before .before .before .before .before .before .plus .ensures,
+      c .before .before .before .before .before .before .before .late-charge .ensures,
+      c .before .before .before .before .before .before .before .before .less .ensures,
+    )
     (charge-is (start .args .v) (start .args .e))
 
 pub charge-spec : {M : Type 1} → statement M

@@ -26,7 +26,16 @@ returns : tie.Need-returns
 returns c =
     let v = c .before .before .before .before .before .before .args .v in
     let e = c .before .before .before .before .before .before .args .e in
-    rw (c .plus2 .ensures, c .before .credit .ensures, c .before .before .moves .ensures, c .before .before .before .plus .ensures, c .before .before .before .before .charge .ensures, c .before .before .before .before .before .charges .ensures, passing (v .charged) (chargeOf v e), passing-sum (v .credited) (creditOf v e))
+    rw (
+      c .plus2 .ensures,
+      c .before .credit .ensures,
+      c .before .before .moves .ensures,
+      c .before .before .before .plus .ensures,
+      c .before .before .before .before .charge .ensures,
+      c .before .before .before .before .before .charges .ensures,
+      passing (v .charged) (chargeOf v e),
+      passing-sum (v .credited) (creditOf v e),
+    )
 
 pub row19-spec : {M : Type 1} → statement M
 row19-spec =
