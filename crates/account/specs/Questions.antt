@@ -1,6 +1,6 @@
 -- What an account answers. A value that fails the test owes 0, and every question for a day is refused with 0.
 use Prim.Native.Nat.{ℕ}
-use mathlib.Core.Bool.{Bool, cond}
+use mathlib.Core.Bool.{Bool, true, false, cond}
 use mathlib.Core.List.{List, map}
 use lib.Dec.{eqb}
 use lib.IntN.{ℤ, pos, subℕ}
@@ -61,3 +61,25 @@ noticeLiveOn a t = toldOn a t (liveBy (a .collection .notice) t)
 
 abbrev pub certifiedOn : Account → ℕ → Truth
 certifiedOn a t = toldOn a t (certifiedBy (a .medical) t)
+
+-- ---- document 01's number and value of such an answer, by cases
+-- the number that refuses, 0 for none
+abbrev pub amountNumber : Amount → ℕ
+amountNumber (amount.Cents n) = 0
+amountNumber (amount.Refused n) = n
+
+-- the cents, 0 where it is refused
+abbrev pub amountCents : Amount → ℕ
+amountCents (amount.Cents n) = n
+amountCents (amount.Refused n) = 0
+
+abbrev pub truthNumber : Truth → ℕ
+truthNumber truth.Yes = 0
+truthNumber truth.No = 0
+truthNumber (truth.Refused n) = n
+
+-- yes; not where it is refused
+abbrev pub truthYes : Truth → Bool
+truthYes truth.Yes = true
+truthYes truth.No = false
+truthYes (truth.Refused n) = false

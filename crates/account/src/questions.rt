@@ -7,7 +7,7 @@ use crate::Truth;
 use rules::Service;
 ghost use mathlib.Core.Path.{_≡_};
 ghost use lib.ListN.{getD};
-ghost use Rattle.account.specs.Questions.{owedBy, openBy, noItem, dayRefusal, arrearsOn, toldOn, inForceOn, noticeLiveOn, certifiedOn};
+ghost use Rattle.account.specs.Questions.{owedBy, openBy, noItem, dayRefusal, arrearsOn, toldOn, inForceOn, noticeLiveOn, certifiedOn, amountNumber, amountCents, truthNumber, truthYes};
 
 impl Account {
     // What is owed, negative where there is credit.
@@ -121,5 +121,51 @@ impl Account {
     {
         let m = self.medical;
         self.told(t, m.certified(t))
+    }
+}
+
+impl Amount {
+    // The number that refuses the day, 0 where the cents are told.
+    pub fn number(self) -> u8
+        ensures { λ r. ⌜ r ≡ amountNumber self ⌝ }
+    {
+        match self {
+            Amount::Cents(_) => 0,
+            Amount::Refused(n) => n,
+        }
+    }
+
+    // The cents, 0 where the day is refused.
+    pub fn cents(self) -> u64
+        ensures { λ r. ⌜ r ≡ amountCents self ⌝ }
+    {
+        match self {
+            Amount::Cents(n) => n,
+            Amount::Refused(_) => 0,
+        }
+    }
+}
+
+impl Truth {
+    // The number that refuses the day, 0 where yes or no is told.
+    pub fn number(self) -> u8
+        ensures { λ r. ⌜ r ≡ truthNumber self ⌝ }
+    {
+        match self {
+            Truth::Yes => 0,
+            Truth::No => 0,
+            Truth::Refused(n) => n,
+        }
+    }
+
+    // Whether the answer is yes.
+    pub fn is_yes(self) -> bool
+        ensures { λ r. ⌜ r ≡ truthYes self ⌝ }
+    {
+        match self {
+            Truth::Yes => true,
+            Truth::No => false,
+            Truth::Refused(_) => false,
+        }
     }
 }
