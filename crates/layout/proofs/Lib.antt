@@ -1,0 +1,6 @@
+pub mod Tests
+pub mod Told
+pub mod Trips
+pub mod Stored
+pub mod Found
+pub mod Samples

@@ -1,0 +1,5 @@
+pub mod Book
+pub mod Answers
+pub mod Lent
+pub mod Finding
+pub mod Facts

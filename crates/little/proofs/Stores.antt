@@ -1,0 +1,16 @@
+-- Stores of lists into a list, one after another.
+use mathlib.Core.Path.{_≡_, sym, ap, _∙_}
+use mathlib.Core.List.{List, [], _∷_, _++_}
+use Prim.Native.Nat.{ℕ, suc, _+_}
+use native.Mathlib.Omega.{arith}
+use lib.ListN.{length, set}
+use lib.Seq.{sets}
+
+-- stores of one list after another
+pub sets-append : (x y l : List ℕ) (i : ℕ) → sets l i (x ++ y) ≡ sets (sets l i x) (i + length x) y
+sets-append [] y l i = ap (λ k. sets l k y) (omega arith)
+sets-append (a ∷ x) y l i = sets-append x y (set l i a) (suc i) ∙ ap (λ k. sets (sets (set l i a) (suc i) x) k y) (omega arith)
+
+-- what a store of x, then a store of y just past it, leave
+pub sets-then : (x y o o2 : List ℕ) (p q : ℕ) → o2 ≡ sets o p x → q ≡ p + length x → sets o2 q y ≡ sets o p (x ++ y)
+sets-then x y o o2 p q e f = rw (e, f) (sym (sets-append x y o p))
