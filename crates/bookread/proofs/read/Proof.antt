@@ -1,0 +1,59 @@
+use mathlib.Core.Path.{sym, ap, _∙_}
+use Rattle.layout.specs.Book.{decode}
+use Rattle.layout.specs.Answers.{outcomeOf}
+use Rattle.layout.proofs.Told.{read-facts, stopped}
+use Rattle.layout.proofs.Stored.{kept-all}
+use Rattle.layout.specs.declared.Outcome.the-variants.{Stopped}
+use borrow.Author.Needs.{needs}
+use Rattle.bookread.proofs.read.Statement.{statement}
+use Rattle.bookread.proofs.read.Tie as tie
+
+read-refusal-requires : tie.Need-read-refusal-requires
+read-refusal-requires c κs = search needs
+
+returns : tie.Need-returns
+returns c =
+    let s = c .before .before .before .before .before .before .before .before .args in
+    let e = c .before .read-refusal .ensures in
+    let z = rw e at (c .if1 .taken) in
+    record {
+      answer = ap (λ n. Stopped n) e ∙ stopped _ z;
+      memory = kept-all _ (decode (s .b .now)) (s .counts .now) (s .kinds .now) (s .options .now) (s .days .now) (s .amounts .now) z;
+    }
+
+take-book-requires : tie.Need-take-book-requires
+take-book-requires c κs = read-facts _ _ _ _ _ _ (sym (c .before .before .before .before .before .before .read-refusal .ensures) ∙ c .before .before .before .before .before .if1 .left)
+
+same-length : tie.Need-same-length
+same-length c = search needs
+
+same-length-2 : tie.Need-same-length-2
+same-length-2 c = search needs
+
+same-length-3 : tie.Need-same-length-3
+same-length-3 c = search needs
+
+same-length-4 : tie.Need-same-length-4
+same-length-4 c = search needs
+
+same-length-5 : tie.Need-same-length-5
+same-length-5 c = search needs
+
+returns-2 : tie.Need-returns-2
+returns-2 c =
+    let e = sym (c .before .before .before .before .before .before .before .before .before .before .before .before .before .before .before .before .before .read-refusal .ensures) ∙ c .before .before .before .before .before .before .before .before .before .before .before .before .before .before .before .before .if1 .left in
+    record { answer = sym (ap outcomeOf e); memory = rw e (c .before .before .before .before .before .before .before .before .before .before .take-book .ensures) }
+
+pub read-spec : {M : Type 1} → statement M
+read-spec =
+    tie.close
+    (tie.spec
+    read-refusal-requires
+    returns
+    take-book-requires
+    same-length
+    same-length-2
+    same-length-3
+    same-length-4
+    same-length-5
+    returns-2)

@@ -1,0 +1,66 @@
+use Prim.Native.Nat.{_+_, _*_, _-_, _≤_}
+use mathlib.Core.Path.{_≡_, ap}
+use mathlib.Core.List.{_∷_}
+use native.Mathlib.Omega.{arith}
+use native.Mathlib.Numerals.{add-one}
+use borrow.Author.Needs.{needs}
+use lib.ListN.{length, drop, getD, drop-of-length-le}
+use lib.Seq.{drop-cons}
+use Rattle.layout.specs.Lent.{total}
+use Rattle.bookwrite.proofs.sum.Statement.{statement}
+use Rattle.bookwrite.proofs.sum.Tie as tie
+
+abbrev Inv-loop : tie.InvT-loop
+Inv-loop counts s₀ i₀ s i = (s + total (drop i counts) ≡ total counts) × (i ≤ length counts) × (s ≤ 4294967296 * i)
+
+abbrev μ-loop : tie.MeasureT-loop
+μ-loop counts s₀ i₀ s i = length counts - i
+
+loop-holds : tie.Need-loop-holds Inv-loop μ-loop
+loop-holds c = search needs
+
+mul-wide32 : tie.Need-mul-wide32 Inv-loop μ-loop
+mul-wide32 c = search needs
+
+shared-slice-read-wide32 : tie.Need-shared-slice-read-wide32 Inv-loop μ-loop
+shared-slice-read-wide32 c = search needs
+
+wide32-requires : tie.Need-wide32-requires Inv-loop μ-loop
+wide32-requires c κs = search needs
+
+add-s : tie.Need-add-s Inv-loop μ-loop
+add-s c = search needs
+
+add-i : tie.Need-add-i Inv-loop μ-loop
+add-i c = search needs
+
+loop-less : tie.Need-loop-less Inv-loop μ-loop
+loop-less c = search needs
+
+loop-again : tie.Need-loop-again Inv-loop μ-loop
+loop-again c =
+    let l = c .before .before .before .loop in
+    let cs = c .before .before .before .before .before .args .counts .now in
+    let d : drop (l .i) cs ≡ getD cs (l .i) 0 ∷ drop (l .i + 1) cs = rw add-one (drop-cons cs (l .i) 0 (omega arith)) in
+    (omega (arith, ap total d), omega arith, omega arith)
+
+returns : tie.Need-returns Inv-loop μ-loop
+returns c =
+    let cs = c .before .before .before .args .counts .now in
+    omega (arith, ap total (drop-of-length-le cs {i = c .before .loop .i} (omega arith)))
+
+pub sum-spec : {M : Type 1} → statement M
+sum-spec =
+    tie.close
+    (tie.spec
+    Inv-loop
+    μ-loop
+    loop-holds
+    mul-wide32
+    shared-slice-read-wide32
+    wide32-requires
+    add-s
+    add-i
+    loop-less
+    loop-again
+    returns)
