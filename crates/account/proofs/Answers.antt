@@ -1,10 +1,9 @@
 -- What the proofs of the questions cite.
 use Prim.Native.Nat.{ℕ, _-_, min}
-use mathlib.Core.Path.{_≡_, refl, sym, ap, _∙_}
+use mathlib.Core.Path.{_≡_, sym, ap, _∙_}
 use mathlib.Core.Bool.{true, false}
 use mathlib.Core.List.{List, map}
 use native.Mathlib.Omega.{arith}
-use lib.Dec.{eqb}
 use lib.IntN.{pos, subℕ}
 use lib.ListN.{getD, List·getD-map}
 use borrow.Author.Tests.{ne-eqb}
@@ -13,7 +12,6 @@ use Rattle.rules.specs.Money.{unpaid}
 use Rattle.ledger.specs.OpenItems.{zeroItem}
 use Rattle.ledger.specs.Ledger.{creditsBy}
 use Rattle.account.specs.declared.Account.{Account}
-use Rattle.account.specs.declared.OpenItem.{OpenItem}
 use Rattle.account.specs.Account.{accountOk}
 use Rattle.account.specs.Questions.{owedBy, seen, noItem, dayRefusal, onDay}
 

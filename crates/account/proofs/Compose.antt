@@ -1,30 +1,26 @@
 -- The account that a history makes answers as the history, and stays the account of the history when it steps.
-use Prim.Native.Nat.{ℕ, _+_, _≤_}
-use mathlib.Core.Path.{_≡_, refl, ap, _∙_}
-use mathlib.Core.Bool.{cond, not}
+use Prim.Native.Nat.{_≤_}
+use mathlib.Core.Path.{_≡_, refl, ap}
 use mathlib.Core.List.{List, [], _∷_}
 use native.Mathlib.Omega.{arith}
-use lib.Dec.{ltb, eqb}
-use borrow.Author.Tests.{eqb-true, ltb-false}
+use lib.Dec.{eqb}
+use borrow.Author.Tests.{eqb-true}
 use Rattle.basics.proofs.Cases.{on, on-lt}
 use Rattle.rules.specs.declared.Event.{Event}
 use Rattle.rules.specs.Kinds.{payment}
 use Rattle.rules.specs.History.{History, is, lastPosted}
 use Rattle.rules.specs.Money.{owed}
-use Rattle.rules.specs.Range.{inRange}
-use Rattle.rules.specs.Table.{refusalBy}
-use Rattle.rules.specs.Accepted.{viewOf, dayRows, refusal, offered, acceptedAfter, Lawful, receiptAfter, answer, answersAfter}
+use Rattle.rules.specs.Accepted.{viewOf, refusal, offered, acceptedAfter, Lawful, receiptAfter, answer, answersAfter}
 use Rattle.rules.proofs.Sums.{receipts}
 use Rattle.rules.proofs.Passed.{passed}
 use Rattle.rules.proofs.Lawful.{offered-lawful}
 use Rattle.ledger.specs.Ledger.{ledgerOf}
 use Rattle.receipts.specs.Receipts.{receiptsOf}
-use Rattle.deposit.specs.Conduct.{conductOf}
 use Rattle.deposit.specs.Deposit.{depositOf}
 use Rattle.collection.specs.Collection.{collectionOf}
 use Rattle.medical.specs.Medical.{medicalOf}
 use Rattle.arrangement.specs.Arrangement.{arrangementOf}
-use Rattle.account.specs.Account.{fresh, accountOk, view, changed, applied, accountOf}
+use Rattle.account.specs.Account.{fresh, view, changed, applied, accountOf}
 use Rattle.account.specs.Post.{refusalAt, receiptAt, judged, posted, run, answers}
 use Rattle.account.specs.Questions.{owedBy}
 use Rattle.account.proofs.Laws.{Laws, laws}
@@ -94,4 +90,4 @@ fresh-is = refl
 
 pub owed-same : (h : History) → Laws h → owedBy (accountOf h) ≡ owed h
 unfolding owedBy
-owed-same h k = rw (k .passes, k .on-ledger .charged-is, k .on-ledger .credits-is)
+owed-same h k = rw (k .passes) (k .on-ledger .owed-is)

@@ -1,6 +1,6 @@
 -- The laws of the parts, together.
 use mathlib.Core.Path.{_≡_}
-use mathlib.Core.Bool.{true, _&&_}
+use mathlib.Core.Bool.{true}
 use borrow.Author.Tests.{le-leb}
 use Rattle.rules.specs.History.{History}
 use Rattle.rules.specs.Accepted.{Lawful}

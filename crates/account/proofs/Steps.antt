@@ -1,7 +1,7 @@
 -- What the proofs of the account's functions cite.
-use Prim.Native.Nat.{ℕ, _+_, _-_, _≤_, _<_, min}
+use Prim.Native.Nat.{ℕ, _-_, min}
 use mathlib.Core.Path.{_≡_, refl, sym, ap, _∙_}
-use mathlib.Core.Bool.{Bool, true, false, cond, not, _&&_}
+use mathlib.Core.Bool.{Bool, true, false, cond, not}
 use mathlib.Core.List.{[], _∷_}
 use native.Mathlib.Omega.{arith}
 use lib.Dec.{leb, ltb, eqb}
@@ -13,7 +13,7 @@ use Rattle.rules.specs.declared.View.{View}
 use Rattle.rules.specs.History.{finalDay}
 use Rattle.rules.specs.Money.{charges}
 use Rattle.rules.specs.Range.{inRange, WellFormed}
-use Rattle.rules.specs.Table.{limit, chargeOf, creditOf, refusalBy}
+use Rattle.rules.specs.Table.{chargeOf, creditOf, refusalBy}
 use Rattle.rules.specs.Accepted.{dayRows}
 use Rattle.rules.proofs.Passed.{allowed, skipped}
 use Rattle.rules.proofs.Room.{Room, room}
@@ -28,7 +28,6 @@ use Rattle.receipts.proofs.Law.{receipts-fit}
 use Rattle.deposit.proofs.Law.{deposit-fit}
 use Rattle.arrangement.proofs.Law.{arrangement-fit}
 use Rattle.account.specs.declared.Account.{Account}
-use Rattle.account.specs.declared.Posted.{Posted}
 use Rattle.account.specs.Account.{accountOk, AccountFit, view, Passing}
 use Rattle.account.specs.Post.{refusalAt, refusedBy, acceptedBy, judged, posted}
 

@@ -13,10 +13,8 @@ use borrow.Author.Tests.{eqb-true}
 use Rattle.basics.specs.Machine.{largest}
 use Rattle.basics.proofs.Cases.{links}
 use Rattle.rules.specs.declared.Event.{Event}
-use Rattle.rules.specs.Accepted.{accepted}
 use Rattle.account.specs.declared.Account.{Account}
 use Rattle.account.specs.declared.Posted.{Posted}
-use Rattle.account.specs.declared.Replayed.{Replayed}
 use Rattle.account.specs.Account.{fresh, accountOk, AccountFit}
 use Rattle.account.specs.Post.{judged, posted, run, answers}
 use Rattle.account.specs.Claim.{accepts, refusedIn}

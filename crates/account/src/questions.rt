@@ -7,7 +7,7 @@ use crate::Truth;
 use rules::Service;
 ghost use mathlib.Core.Path.{_≡_};
 ghost use lib.ListN.{getD};
-ghost use Rattle.account.specs.Questions.{owedBy, openBy, noItem, dayRefusal, arrearsOn, toldOn, inForceOn, noticeLiveOn, certifiedOn, amountNumber, amountCents, truthNumber, truthYes};
+ghost use Rattle.account.specs.Questions.{owedBy, openBy, noItem, arrearsOn, toldOn, inForceOn, noticeLiveOn, certifiedOn, amountNumber, amountCents, truthNumber, truthYes};
 
 impl Account {
     // What is owed, negative where there is credit.

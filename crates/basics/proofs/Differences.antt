@@ -2,7 +2,7 @@
 use Prim.Native.Nat.{ℕ, zero, suc, _+_, _-_}
 use mathlib.Core.Path.{_≡_, ap, _∙_}
 use native.Mathlib.Omega.{arith}
-use lib.IntN.{ℤ, pos, negsuc, subℕ, _-ℤ_, +ℤ-idr}
+use lib.IntN.{pos, negsuc, subℕ, _-ℤ_, +ℤ-idr}
 use borrow.Author.Tests.{lt-ltb, le-ltb}
 use Rattle.basics.proofs.Cases.{on-lt}
 

@@ -1,10 +1,10 @@
 -- Two days of calls say of a later day what all calls say.
-use Prim.Native.Nat.{ℕ, _+_, _-_, _≤_, _<_}
+use Prim.Native.Nat.{ℕ, _+_, _-_, _≤_}
 use mathlib.Core.Path.{_≡_, refl}
 use mathlib.Core.Bool.{Bool, true, false, _&&_, _||_}
 use mathlib.Core.List.{[], _∷_}
 use native.Mathlib.Omega.{arith}
-use lib.Dec.{leb, eqb}
+use lib.Dec.{leb}
 use borrow.Author.Tests.{leb-true, le-leb}
 use Rattle.basics.proofs.Cases.{on, on-eq, both-ways, absorb, and-left, and-right, and-both}
 use Rattle.rules.specs.declared.Event.{Event}

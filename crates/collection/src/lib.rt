@@ -10,7 +10,7 @@ ghost use mathlib.Core.Path.{_≡_};
 ghost use mathlib.Core.Bool.{cond};
 ghost use Rattle.rules.specs.declared.Service.{Service as ServiceT};
 ghost use Rattle.rules.specs.Range.{WellFormed};
-ghost use Rattle.collection.specs.Collection.{noStatus, statusAfter, noNotice, noticeAfter, liveBy, inDaysBy, noCalls, callsAfter, recentBy, calledBy, noCollection, collectionAfter, collectionOk};
+ghost use Rattle.collection.specs.Collection.{statusAfter, noticeAfter, liveBy, inDaysBy, callsAfter, recentBy, calledBy, noCollection, collectionAfter, collectionOk};
 
 // The service stands in a struct of its own: a field that is an enum can't be stored to.
 pub struct Status {

@@ -1,13 +1,12 @@
 -- The three newest notices and the newest disconnection say of the last 365 days what the whole history says.
-use Prim.Native.Nat.{ℕ, _+_, _≤_, _<_, min, zero-le}
-use mathlib.Core.Path.{_≡_, refl, sym, ap, _∙_}
-use mathlib.Core.Bool.{Bool, true, false, cond, not, _&&_, _||_}
+use Prim.Native.Nat.{ℕ, _+_, _≤_, min, zero-le}
+use mathlib.Core.Path.{_≡_, refl, sym, ap}
+use mathlib.Core.Bool.{Bool, true, false, cond, not, _&&_}
 use mathlib.Core.List.{[], _∷_}
 use native.Mathlib.Omega.{arith}
 use lib.Dec.{leb}
 use borrow.Author.Tests.{le-leb, lt-leb, leb-true}
-use Rattle.basics.proofs.Cases.{on, on-eq, and-left, and-right, and-both, absorb}
-use Rattle.rules.specs.declared.Event.{Event}
+use Rattle.basics.proofs.Cases.{on, and-left, and-right, and-both, absorb}
 use Rattle.rules.specs.Kinds.{finalNotice, disconnection}
 use Rattle.rules.specs.History.{History, is, within, lastPosted, any, count}
 use Rattle.rules.specs.Deposit.{inYear}

@@ -9,7 +9,7 @@ use Rattle.rules.specs.History.{History, finalDay, is, amountIf}
 use Rattle.rules.specs.Deposit.{moves}
 use Rattle.rules.specs.Range.{mostDeposit}
 use Rattle.deposit.specs.declared.Deposit.{Deposit}
-use Rattle.deposit.specs.Conduct.{noConduct, conductAfter, conductOf, quietBy, conductOk}
+use Rattle.deposit.specs.Conduct.{noConduct, conductAfter, quietBy, conductOk}
 
 abbrev pub noDeposit : Deposit
 noDeposit = record { held = 0; required = 0; «full_on» = 0; conduct = noConduct }

@@ -6,9 +6,8 @@ use mathlib.Core.List.{List, [], _∷_, _++_, append-nil}
 use native.Mathlib.Omega.{arith}
 use lib.Dec.{leb, ltb}
 use lib.IntN.{subℕ}
-use lib.ListN.{length, take, length-append}
+use lib.ListN.{length, length-append}
 use borrow.Author.Tests.{ltb-true, ltb-false, lt-ltb, le-ltb, leb-false, le-leb}
-use Rattle.basics.specs.Lists.{pad, every}
 use Rattle.basics.proofs.Cases.{on, on-lt}
 use Rattle.basics.proofs.Lists.{All, all-append, all-more, all-every, take-pad}
 use Rattle.rules.specs.declared.Event.{Event}
@@ -26,8 +25,7 @@ use Rattle.rules.proofs.Passed.{passed}
 use Rattle.rules.proofs.Room.{payout-in}
 use Rattle.rules.proofs.Lawful.{payouts}
 use Rattle.rules.proofs.Bounds.{charged-limit, credited-limit, charge-above}
-use Rattle.ledger.specs.declared.Ledger.{Ledger}
-use Rattle.ledger.specs.OpenItems.{zeroItem, isOpen, openWith, listed, small}
+use Rattle.ledger.specs.OpenItems.{zeroItem, isOpen, listed, small}
 use Rattle.ledger.specs.Ledger.{ledgerWith, creditsBy, arrearsBy, newItem, ledgerAfter, ledgerOf, ledgerOk}
 
 -- ---- the items of a lawful history: above 0, and no further than C

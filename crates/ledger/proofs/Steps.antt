@@ -1,6 +1,6 @@
 -- What the proofs of the ledger's functions cite.
 use Prim.Native.Nat.{ℕ, _+_, _*_, _-_, _≤_, _<_, zero-le}
-use mathlib.Core.Path.{_≡_, refl, sym, ap, _∙_}
+use mathlib.Core.Path.{_≡_, sym, ap}
 use mathlib.Core.Bool.{Bool, true, false, cond, _&&_}
 use mathlib.Core.List.{List, [], _∷_, _++_, append-nil}
 use native.Mathlib.Omega.{arith}
@@ -8,7 +8,7 @@ use lib.Dec.{leb, ltb}
 use lib.ListN.{length, take, getD, set, length-take, length-append, List·getD-eq-default}
 use lib.Seq.{length-take-le, getD-take}
 use borrow.Author.Tests.{leb-true, le-leb}
-use Rattle.basics.specs.Lists.{pad, every}
+use Rattle.basics.specs.Lists.{every}
 use Rattle.basics.proofs.Cases.{on, links}
 use Rattle.basics.proofs.Lists.{take-pad, pad-set, every-append}
 use Rattle.rules.specs.declared.Event.{Event}
@@ -21,7 +21,7 @@ use Rattle.rules.proofs.Items.{keep-append, keep-short, every-keep, sum-step, s
 use Rattle.ledger.specs.declared.OpenItems.{OpenItems}
 use Rattle.ledger.specs.declared.Ledger.{Ledger}
 use Rattle.ledger.specs.OpenItems.{zeroItem, isOpen, openWith, listed, small, openOk, OpenFit}
-use Rattle.ledger.specs.Ledger.{ledgerWith, newItem, ledgerAfter, headOk, ledgerOk, LedgerFit, LedgerRoom}
+use Rattle.ledger.specs.Ledger.{ledgerWith, newItem, ledgerAfter, ledgerOk, LedgerFit, LedgerRoom}
 
 -- ---- arrears: each part is within the limit, so the sum of 64 fits
 due-le : (p t : ℕ) (x : Item) → small x ≡ true → due p t x ≤ limit

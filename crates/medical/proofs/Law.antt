@@ -1,10 +1,10 @@
 -- The law of the part: after a lawful history it answers what the rules say.
-use Prim.Native.Nat.{ℕ, _+_, _≤_, _<_, max, zero-le}
+use Prim.Native.Nat.{ℕ, _+_, _≤_, max, zero-le}
 use mathlib.Core.Path.{_≡_}
 use mathlib.Core.Bool.{Bool, true, false, cond, _&&_, _||_}
 use mathlib.Core.List.{[], _∷_}
 use native.Mathlib.Omega.{arith}
-use lib.Dec.{leb, ltb}
+use lib.Dec.{ltb}
 use lib.ListN.{getD}
 use borrow.Author.Tests.{le-leb, lt-ltb, le-ltb, ltb-true, eqb-true}
 use Rattle.basics.proofs.Cases.{on, on-lt, both-ways, at-most}

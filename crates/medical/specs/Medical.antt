@@ -1,6 +1,6 @@
 -- The certificates and approvals that an account keeps.
-use Prim.Native.Nat.{ℕ, _+_, _≤_, max}
-use mathlib.Core.Bool.{Bool, cond, _&&_, _||_}
+use Prim.Native.Nat.{ℕ, _+_, max}
+use mathlib.Core.Bool.{Bool, cond, _&&_}
 use mathlib.Core.List.{[], _∷_}
 use lib.Dec.{leb, ltb}
 use Rattle.rules.specs.declared.Event.{Event}

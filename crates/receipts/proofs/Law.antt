@@ -13,7 +13,6 @@ use Rattle.basics.proofs.Lists.{at-set}
 use Rattle.rules.specs.Kinds.{payment, returnedPayment}
 use Rattle.rules.specs.History.{History, is, within}
 use Rattle.rules.specs.Receipts.{payments, returned, returnable}
-use Rattle.rules.specs.Table.{limit}
 use Rattle.rules.specs.Accepted.{Lawful}
 use Rattle.rules.proofs.Days.{within-true}
 use Rattle.rules.proofs.Passed.{passed}

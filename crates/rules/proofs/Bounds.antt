@@ -1,7 +1,7 @@
 -- The sizes that the table keeps: what holds of the numbers of every lawful history.
 use Prim.Native.Nat.{ℕ, zero, suc, _+_, _-_, _≤_, _<_, zero-le}
 use mathlib.Core.Path.{_≡_, refl, sym, _∙_}
-use mathlib.Core.Bool.{Bool, true, false, cond, not, _&&_, _||_, or-false, true≢false}
+use mathlib.Core.Bool.{true, false, _&&_, or-false, true≢false}
 use mathlib.Core.List.{[], _∷_}
 use native.Mathlib.Omega.{arith}
 use lib.Dec.{leb, ltb, eqb}
@@ -12,15 +12,15 @@ use Rattle.basics.specs.Lists.{every}
 use Rattle.basics.proofs.Lists.{every-in}
 use Rattle.rules.specs.declared.Event.{Event}
 use Rattle.rules.specs.declared.View.{View}
-use Rattle.rules.specs.Kinds.{bill, payment, returnedPayment, fee, depositAsked, depositPaid, payout, arrangement, finalNotice, reconnection}
-use Rattle.rules.specs.History.{History, finalDay, is, within, lastPosted, since, amountIf, total}
+use Rattle.rules.specs.Kinds.{bill, payment, returnedPayment, fee, depositAsked, depositPaid, arrangement, finalNotice, reconnection}
+use Rattle.rules.specs.History.{History, finalDay, is, within, lastPosted, total}
 use Rattle.rules.specs.Fees.{fees, feeOf}
 use Rattle.rules.specs.Receipts.{payments, returned, known, returnable}
 use Rattle.rules.specs.Deposit.{moves, held, required, full, fullOn}
 use Rattle.rules.specs.Money.{credited, credits, charges, charge, charged, due, items, arrears}
 use Rattle.rules.specs.Arrangement.{terms, paidSince, returnedSince}
 use Rattle.rules.specs.Range.{mostDeposit, inRange}
-use Rattle.rules.specs.Table.{limit, row6, row7}
+use Rattle.rules.specs.Table.{limit, row7}
 use Rattle.rules.specs.Accepted.{viewOf, Lawful}
 use Rattle.rules.proofs.Days.{Sorted, within-true}
 use Rattle.rules.proofs.Items.{sum-mono}

@@ -1,6 +1,6 @@
 -- The exact condition for a disconnection (document 01: a cut).
 use Prim.Native.Nat.{ℕ, _≤_}
-use mathlib.Core.Path.{_≡_, refl, sym, ap, _∙_}
+use mathlib.Core.Path.{_≡_, refl, ap, _∙_}
 use mathlib.Core.Bool.{Bool, true, false, cond, not, _&&_, _||_}
 use lib.Dec.{leb, ltb, eqb}
 use borrow.Author.Tests.{le-ltb, le-leb, lt-leb}
@@ -8,7 +8,7 @@ use Rattle.basics.proofs.Cases.{on-lt}
 use Rattle.rules.specs.declared.Service.{Service}
 use Rattle.rules.specs.declared.Service.the-variants.{On, Off, Closed}
 use Rattle.rules.specs.History.{History, finalDay, within, lastPosted}
-use Rattle.rules.specs.Service.{service, isOn, isOff, isClosed}
+use Rattle.rules.specs.Service.{service, isOn, isClosed}
 use Rattle.rules.specs.Money.{arrears}
 use Rattle.rules.specs.Notice.{enough, noticeInDays, called}
 use Rattle.rules.specs.Medical.{certified, approved}

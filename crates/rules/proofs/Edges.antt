@@ -1,7 +1,7 @@
 -- Our own cases: both sides of every bound of the rules, and the order of the rows. Document 01's examples alone pin the rules weakly.
 use mathlib.Core.List.{List, [], _∷_, _++_}
 use Rattle.rules.specs.declared.Event.{Event}
-use Rattle.rules.proofs.Events.{event, bill, payment, returned, fee, asked, paid, moved, payout, certificate, approval, arrangement, notice, call, cut, reconnection, close, times, number, receipt, owed, credit, held, required, open-count, open-day, open-part, arrears, service-is, refused, Case, ends, shows}
+use Rattle.rules.proofs.Events.{event, bill, payment, returned, fee, asked, paid, moved, payout, certificate, approval, arrangement, notice, call, cut, reconnection, close, times, receipt, owed, credit, held, required, open-count, open-day, open-part, arrears, service-is, refused, Case, ends, shows}
 use Rattle.rules.proofs.Paper.{b, d}
 
 -- a full deposit of 100 on day 0

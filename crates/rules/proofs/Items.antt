@@ -1,7 +1,7 @@
 -- Laws of the lists of items: what a test keeps, and sums over them.
 use Prim.Native.Nat.{ℕ, zero, suc, _+_, _*_, _≤_, _<_, zero-le}
 use mathlib.Core.Path.{_≡_, refl, sym, _∙_}
-use mathlib.Core.Bool.{Bool, true, false, _&&_, true≢false}
+use mathlib.Core.Bool.{Bool, true, false, true≢false}
 use mathlib.Core.List.{List, [], _∷_, _++_, append-nil}
 use native.Mathlib.Nat.{not-suc-le-zero, le-of-suc-le-suc, suc-mul}
 use native.Mathlib.Numerals.{add-one}

@@ -1,24 +1,19 @@
 -- What holds of every lawful history: the accepted events of a list are one.
-use Prim.Native.Nat.{ℕ, _+_, _-_, _≤_, _<_}
-use mathlib.Core.Path.{_≡_, refl, ap, sym, _∙_}
-use mathlib.Core.Bool.{Bool, true, false, cond, or-false}
+use Prim.Native.Nat.{_+_, _≤_}
+use mathlib.Core.Path.{_≡_, _∙_}
 use mathlib.Core.List.{List, [], _∷_}
 use native.Mathlib.Omega.{arith}
-use lib.Dec.{ltb, eqb}
-use lib.IntN.{ℤ, pos, subℕ, _-ℤ_}
-use lib.ListN.{length, getD}
-use borrow.Author.Tests.{eqb-true, ltb-false}
-use Rattle.basics.proofs.Cases.{on, on-eq}
+use lib.Dec.{eqb}
+use lib.IntN.{pos, subℕ, _-ℤ_}
+use borrow.Author.Tests.{eqb-true}
+use Rattle.basics.proofs.Cases.{on}
 use Rattle.basics.proofs.Differences.{difference, less-more}
 use Rattle.rules.specs.declared.Event.{Event}
-use Rattle.rules.specs.declared.View.{View}
 use Rattle.rules.specs.Kinds.{bill, payment, depositPaid, payout}
-use Rattle.rules.specs.History.{History, is, amountIf, total}
-use Rattle.rules.specs.Receipts.{payments, known, returnable}
-use Rattle.rules.specs.Deposit.{held, moved}
+use Rattle.rules.specs.History.{History, total}
+use Rattle.rules.specs.Deposit.{held}
 use Rattle.rules.specs.Money.{credited, credits, charged, owed}
 use Rattle.rules.specs.Sums.{lateCharges, feesCharged, returnedPayments}
-use Rattle.rules.specs.Table.{row7}
 use Rattle.rules.specs.Accepted.{viewOf, refusal, offered, acceptedAfter, accepted, Lawful}
 use Rattle.rules.proofs.Sums.{deposits, charged-parts}
 use Rattle.rules.proofs.Passed.{passed}

@@ -1,7 +1,7 @@
 -- What row 3 says of an event's fields, one law for all kinds.
 use Prim.Native.Nat.{ℕ, _≤_}
 use mathlib.Core.Path.{_≡_, subst}
-use mathlib.Core.Bool.{true, _&&_}
+use mathlib.Core.Bool.{true}
 use lib.ListN.{getD}
 use borrow.Author.Tests.{eqb-true}
 use Rattle.basics.proofs.Cases.{and-left, and-right, at-most}

@@ -1,9 +1,9 @@
 -- What the table leaves room for: an event that it lets pass keeps the sums within the limit.
-use Prim.Native.Nat.{ℕ, _+_, _-_, _≤_, _<_, zero-le}
+use Prim.Native.Nat.{_+_, _-_, _≤_, _<_, zero-le}
 use mathlib.Core.Path.{_≡_}
-use mathlib.Core.Bool.{Bool, true, false, cond, _&&_, _||_, or-false}
+use mathlib.Core.Bool.{true, false, cond, _&&_, _||_, or-false}
 use native.Mathlib.Omega.{arith}
-use lib.Dec.{leb, ltb}
+use lib.Dec.{ltb}
 use borrow.Author.Tests.{ltb-false, leb-false}
 use Rattle.basics.proofs.Cases.{on, on-eq, or-left, or-right}
 use Rattle.rules.specs.declared.Event.{Event}

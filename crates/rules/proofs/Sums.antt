@@ -1,16 +1,14 @@
 -- Laws of the sums: how each grows with one more event, and how they add up.
-use Prim.Native.Nat.{ℕ, _+_, _-_, _≤_}
+use Prim.Native.Nat.{ℕ, _+_}
 use mathlib.Core.Path.{_≡_, refl, ap}
-use mathlib.Core.Bool.{Bool, true, false, cond, _||_, true≢false}
+use mathlib.Core.Bool.{Bool, false, cond, _||_}
 use mathlib.Core.List.{[], _∷_}
 use native.Mathlib.Omega.{arith}
 use lib.ListN.{length}
 use Rattle.basics.proofs.Cases.{on, on-eq, or-left, or-right}
 use Rattle.rules.specs.declared.Event.{Event}
-use Rattle.rules.specs.declared.Item.{Item}
 use Rattle.rules.specs.Kinds.{bill, payment, returnedPayment, fee, depositPaid, finalNotice, reconnection}
 use Rattle.rules.specs.History.{History, is, count, since, amountIf, total, newest}
-use Rattle.rules.specs.Fees.{feeOf, feeNumber}
 use Rattle.rules.specs.Receipts.{payments, returnable}
 use Rattle.rules.specs.Deposit.{moves, held, moved}
 use Rattle.rules.specs.Money.{credited, credits, creditBy, charges, chargeBy, charge, charged, items, sumOf}
@@ -33,9 +31,6 @@ newest-since k p e h = on (p e) (λ q. rw q) (λ q. rw q)
 
 pub credited-step : (e : Event) (h : History) → credited (e ∷ h) ≡ credited h + creditBy (held h) e
 credited-step e h = omega arith
-
-pub charged-step : (e : Event) (h : History) → charged (e ∷ h) ≡ charged h + charge h e
-charged-step e h = refl
 
 -- ---- how they add up
 -- a sum by kind is a sum of the events one by one

@@ -3,7 +3,6 @@ use Prim.Native.Nat.{ℕ, _+_, _*_, _-_, _/_, min}
 use mathlib.Core.Bool.{Bool, cond, _&&_}
 use mathlib.Core.List.{[], _∷_}
 use lib.Dec.{leb, ltb}
-use Rattle.rules.specs.declared.Event.{Event}
 use Rattle.rules.specs.Kinds.{payment, returnedPayment, arrangement}
 use Rattle.rules.specs.History.{History, is, since, total}
 use Rattle.rules.specs.Receipts.{returnable}

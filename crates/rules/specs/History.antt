@@ -1,6 +1,6 @@
 -- A history: the accepted events, newest first; and the few ways in which the rules look through one.
 use Prim.Native.Nat.{ℕ, _+_}
-use mathlib.Core.Bool.{Bool, true, false, cond, _&&_, _||_}
+use mathlib.Core.Bool.{Bool, false, cond, _&&_, _||_}
 use mathlib.Core.List.{List, [], _∷_}
 use lib.Dec.{leb, eqb}
 use Rattle.rules.specs.declared.Event.{Event}

@@ -3,7 +3,6 @@ use Prim.Native.Nat.{ℕ, _+_}
 use mathlib.Core.Bool.{Bool, false, not, _&&_, _||_}
 use mathlib.Core.List.{[], _∷_}
 use lib.Dec.{leb}
-use Rattle.rules.specs.declared.Event.{Event}
 use Rattle.rules.specs.Kinds.{finalNotice, call, disconnection}
 use Rattle.rules.specs.History.{History, is, within, any}
 use Rattle.rules.specs.Money.{arrears}

@@ -4,7 +4,6 @@ use mathlib.Core.Bool.{Bool, cond, not, _&&_}
 use mathlib.Core.List.{List, [], _∷_}
 use lib.Dec.{ltb, eqb}
 use lib.ListN.{length, getD}
-use Rattle.rules.specs.declared.Event.{Event}
 use Rattle.rules.specs.Kinds.{payment, returnedPayment}
 use Rattle.rules.specs.History.{History, is, within, any}
 

@@ -1,12 +1,12 @@
 -- What the code computes, as equations with the rules' definitions: sums that stop at the largest number, selects for sums, tables read by number.
 use Prim.Native.Nat.{ℕ, zero, suc, _+_, _-_, _≤_, _<_, min}
 use mathlib.Core.Path.{_≡_, refl, sym, ap, _∙_}
-use mathlib.Core.Bool.{Bool, true, false, cond, _&&_}
+use mathlib.Core.Bool.{false, cond}
 use mathlib.Core.List.{List, [], _∷_}
 use native.Mathlib.Omega.{arith}
-use lib.Dec.{leb, ltb}
+use lib.Dec.{ltb}
 use lib.ListN.{length, getD, List·getD-eq-default}
-use borrow.Author.Tests.{lt-ltb, le-ltb, lt-leb, le-leb}
+use borrow.Author.Tests.{lt-ltb, le-ltb, lt-leb}
 use Rattle.basics.specs.Machine.{largest}
 use Rattle.basics.proofs.Cases.{on-eq, on-lt, on-le}
 use Rattle.rules.specs.declared.Event.{Event}

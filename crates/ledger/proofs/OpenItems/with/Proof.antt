@@ -1,6 +1,5 @@
 use native.Mathlib.Omega.{arith}
 use Rattle.ledger.proofs.Steps.{with-set, with-same}
-use borrow.Author.Needs.{needs}
 use Rattle.ledger.proofs.OpenItems.with.Statement.{statement}
 use Rattle.ledger.proofs.OpenItems.with.Tie as tie
 
