@@ -15,6 +15,7 @@ use Rattle.rules.specs.Kinds.{bill, payment, depositPaid, payout}
 use Rattle.rules.specs.History.{History, finalDay, lastPosted, total}
 use Rattle.rules.specs.Deposit.{held}
 use Rattle.rules.specs.Money.{credits, owed, openItems}
+use Rattle.rules.specs.Service.{service}
 use Rattle.rules.specs.Sums.{lateCharges, feesCharged, returnedPayments}
 use Rattle.rules.specs.Accepted.{accepted, answersBy, cutOn, mayCut}
 use Rattle.account.specs.declared.Account.{Account}
@@ -44,6 +45,10 @@ pub record ClaimOf (a : Account) (said : List Answer) (es : List Event) (h : His
   pub holding : a .deposit .held ≡ held h
   -- the open items, day and unpaid part in the order posted, are the items whose unpaid part min(a_k, max(0, C_k − P)) is above 0
   pub opens : openBy a ≡ map (seen (credits h)) (openItems h)
+  -- and as many of them as it says are open
+  pub counting : a .ledger .items .count ≡ length (openItems h)
+  -- service is as the last event that sets it says
+  pub serving : a .collection .status .service ≡ service h
   -- owed less held is bills, late charges, fees, returned payments and payouts, less payments and deposits paid
   pub money : owedBy a -ℤ pos (a .deposit .held)
       ≡ subℕ (total bill h + lateCharges h + feesCharged h + returnedPayments h + total payout h) (total payment h + total depositPaid h)

@@ -97,6 +97,9 @@ length-split : (cs : List ℕ) (es : List Event) → length (split cs es) ≡ le
 length-split [] es = refl
 length-split (c ∷ cs) es = ap suc (length-split cs (drop c es))
 
+pub decode-length : (b : List ℕ) → length (decode b) ≡ accounts b
+decode-length b = length-split (countsAt (accounts b) 8 b) (eventsAt (records b) (base (accounts b)) b) ∙ length-counts (accounts b) 8 b
+
 -- record k of an accepted book, for every k
 pub record-of : (b : List ℕ) (k : ℕ) → bookRefusal b ≡ 0 → recordAt b k ≡ recordOf b k
 record-of b k z =
@@ -110,15 +113,13 @@ pub account-of : (b : List ℕ) (i : ℕ) → bookRefusal b ≡ 0 → IsAccount 
 account-of b i z =
     let h : Header b = book-facts b z .0 in
     let n : entries b ≡ accounts b = rw (le-leb (base (accounts b)) (length b) (omega (arith, h))) in
-    let cs = countsAt (accounts b) 8 b in
-    let es = eventsAt (records b) (base (accounts b)) b in
     let o = (num 4 (8 + 8 * i) b - base (accounts b)) / 16 in
     on-lt i (entries b)
     (λ s q. rw s (account-at b i (record { first = o; count = num 4 (8 + 8 * i + 4) b }) z (omega arith) (omega (arith, offset-of b i z (omega arith))) refl))
     (λ s q. rw s (record {
       within = omega arith;
       small = omega (arith, h);
-      events = sym (past (decode b) i [] (omega (arith, length-split cs es, length-counts (accounts b) 8 b)));
+      events = sym (past (decode b) i [] (omega (arith, decode-length b)));
     }))
 
 -- what is answered says both

@@ -2,6 +2,7 @@
 use Prim.Native.Nat.{ℕ}
 use mathlib.Core.Bool.{Bool, true, false, cond}
 use mathlib.Core.List.{List, [], _∷_}
+use Rattle.basics.specs.Ascii.{ascii}
 use Rattle.rules.specs.declared.Service.{Service}
 use Rattle.rules.specs.declared.Service.the-variants.{On, Off, Closed}
 use Rattle.rules.specs.Kinds.{disconnection, reconnection, closing}
@@ -32,8 +33,8 @@ isClosed On = false
 isClosed Off = false
 isClosed Closed = true
 
--- the word that `standing` prints, in ASCII: on, off, closed
+-- the word that `standing` prints
 abbrev pub wordOf : Service → List ℕ
-wordOf On = 111 ∷ 110 ∷ []
-wordOf Off = 111 ∷ 102 ∷ 102 ∷ []
-wordOf Closed = 99 ∷ 108 ∷ 111 ∷ 115 ∷ 101 ∷ 100 ∷ []
+wordOf On = ascii "on"
+wordOf Off = ascii "off"
+wordOf Closed = ascii "closed"

@@ -1,0 +1,17 @@
+-- The answers of the static library: plain numbers, since an enum has no form in C.
+use Prim.Native.Nat.{ℕ}
+use mathlib.Core.Path.{_≡_}
+use mathlib.Core.List.{List}
+use Rattle.report.specs.declared.Printed.{Printed}
+use Rattle.report.specs.declared.Printed.the-variants.{Bytes, Refused}
+use Rattle.report.specs.Report.{printedAs, printedIn}
+
+-- how many bytes were written; 0 where the output was too short, which no text is
+abbrev pub bytesOf : Printed → ℕ
+bytesOf (Bytes n) = n
+bytesOf (Refused n) = 0
+
+-- what writing a text does: its answer, and every byte of the output
+pub record Written (text old new : List ℕ) (r : ℕ) : Type 0 where
+  pub answer : r ≡ bytesOf (printedAs text old)
+  pub bytes : new ≡ printedIn text old

@@ -1,0 +1,35 @@
+-- What is printed of one account.
+use Prim.Native.Nat.{ℕ, _-_}
+use mathlib.Core.Path.{_≡_}
+use mathlib.Core.List.{List, [], _∷_, _++_}
+use lib.IntN.{subℕ}
+use lib.ListN.{length}
+use Rattle.rules.specs.declared.Event.{Event}
+use Rattle.rules.specs.History.{History}
+use Rattle.rules.specs.Deposit.{held}
+use Rattle.rules.specs.Money.{owed, openItems}
+use Rattle.rules.specs.Service.{service, wordOf}
+use Rattle.text.specs.Decimal.{decimal, signed}
+use Rattle.report.specs.declared.Standing.{Standing}
+
+-- s is where an account stands after the events es, of which h are accepted
+pub record Stands (s : Standing) (es : List Event) (h : History) : Type 0 where
+  pub owing : subℕ (s .charged) (s .credits) ≡ owed h
+  pub holding : s .held ≡ held h
+  pub opens : s .«open_count» ≡ length (openItems h)
+  pub serving : s .service ≡ service h
+  pub refusing : s .refused ≡ length es - length h
+
+-- a word and the byte after it
+abbrev pub marked : List ℕ → ℕ → List ℕ
+marked w m = w ++ (m ∷ [])
+
+-- index, owed and held; open items, service and refused count
+abbrev pub moneyPart : ℕ → Standing → List ℕ
+moneyPart i s = marked (decimal i) 32 ++ (marked (signed (subℕ (s .charged) (s .credits))) 32 ++ marked (decimal (s .held)) 32)
+
+abbrev pub statePart : Standing → List ℕ
+statePart s = marked (decimal (s .«open_count»)) 32 ++ (marked (wordOf (s .service)) 32 ++ marked (decimal (s .refused)) 10)
+
+unfoldable pub standingLine : ℕ → Standing → List ℕ
+standingLine i s = moneyPart i s ++ statePart s

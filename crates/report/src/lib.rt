@@ -1,0 +1,222 @@
+// The standing of every account of a book, as text in lent memory. The accounts are posted in place, record by record.
+mod line;
+
+use bookpost::post_account;
+use line::line_length;
+use line::put_line;
+use little::get;
+use rules::Service;
+use text::put_bytes;
+use text::put_number;
+use text::width;
+ghost use mathlib.Core.Path.{_≡_};
+ghost use Prim.Native.Nat.{_+_, _*_, _≤_, _<_};
+ghost use lib.Dec.{ltb};
+ghost use lib.ListN.{length};
+ghost use Rattle.rules.specs.Accepted.{accepted};
+ghost use Rattle.layout.specs.Book.{accounts, bookRefusal, decode};
+ghost use Rattle.layout.specs.Finding.{accountOf};
+ghost use Rattle.text.specs.Put.{Put};
+ghost use Rattle.report.specs.Standing.{Stands};
+ghost use Rattle.report.specs.Report.{lineOf, linesOf, listing, refusedText, inputText, Wrote, Reported};
+
+// Where an account stands after its records. What is owed is charged less credits, which may be negative.
+pub struct Standing {
+    // all charges (document 01: C)
+    pub charged: u64,
+    // payments plus deposits moved, less payouts (document 01: P)
+    pub credits: u64,
+    pub held: u64,
+    pub open_count: u64,
+    pub service: Service,
+    pub refused: u64,
+}
+
+// How many bytes were written; or refused with 22, the output being shorter than the text.
+pub enum Printed {
+    Bytes(usize),
+    Refused(u8),
+}
+
+// The first line.
+const HEADING: [u8; 39] = [
+    b'a',
+    b'c',
+    b'c',
+    b'o',
+    b'u',
+    b'n',
+    b't',
+    b' ',
+    b'o',
+    b'w',
+    b'e',
+    b'd',
+    b' ',
+    b'h',
+    b'e',
+    b'l',
+    b'd',
+    b' ',
+    b'o',
+    b'p',
+    b'e',
+    b'n',
+    b' ',
+    b's',
+    b'e',
+    b'r',
+    b'v',
+    b'i',
+    b'c',
+    b'e',
+    b' ',
+    b'r',
+    b'e',
+    b'f',
+    b'u',
+    b's',
+    b'e',
+    b'd',
+    b'\n',
+];
+
+const BOOK_REFUSED: [u8; 13] = [
+    b'b',
+    b'o',
+    b'o',
+    b'k',
+    b' ',
+    b'r',
+    b'e',
+    b'f',
+    b'u',
+    b's',
+    b'e',
+    b'd',
+    b' ',
+];
+
+// Where account i of an accepted book stands.
+fn standing_of(b: &[u8], i: usize) -> Standing
+    requires { ⌜ bookRefusal (now b) ≡ 0 ⌝ }
+    ensures { λ r. ⌜ Stands r (accountOf (now (b .entry)) i) (accepted (accountOf (now (b .entry)) i)) ⌝ }
+{
+    let posted = post_account(b, i);
+    let a = posted.account;
+    let l = a.ledger;
+    let service = a.service();
+    Standing {
+        charged: l.charged,
+        credits: l.credits(),
+        held: a.held(),
+        open_count: a.open_count(),
+        service,
+        refused: posted.refused,
+    }
+}
+
+// Stores the line of account i, and says where the text goes on.
+fn put_account(b: &[u8], i: usize, out: &mut [u8], p: usize) -> usize
+    requires { ⌜ (bookRefusal (now b) ≡ 0) × (p + length (lineOf i (accountOf (now b) i)) ≤ length (now out)) ⌝ }
+    ensures { λ r. ⌜ Put (lineOf i (accountOf (now (b .entry)) i)) (now (out .entry)) (now (out .exit)) p r ⌝ }
+{
+    let s = standing_of(b, i);
+    put_line(out, p, i as u64, s)
+}
+
+// Stores the lines of all n accounts.
+fn put_lines(b: &[u8], n: usize, out: &mut [u8], p: usize) -> usize
+    requires { ⌜ (bookRefusal (now b) ≡ 0) × (n ≡ accounts (now b)) × (p + length (linesOf 0 (decode (now b))) ≤ length (now out)) ⌝ }
+    ensures { λ r. ⌜ Put (linesOf 0 (decode (now (b .entry)))) (now (out .entry)) (now (out .exit)) p r ⌝ }
+{
+    let mut at = p;
+    let mut i: usize = 0;
+    while i < n {
+        at = put_account(b, i, out, at);
+        i += 1;
+    }
+    at
+}
+
+// How long the line of account i is, 113 bytes at most.
+fn account_length(b: &[u8], i: usize) -> usize
+    requires { ⌜ bookRefusal (now b) ≡ 0 ⌝ }
+    ensures { λ r. ⌜ (r ≡ length (lineOf i (accountOf (now (b .entry)) i))) × (r ≤ 113) ⌝ }
+{
+    let s = standing_of(b, i);
+    line_length(i as u64, s)
+}
+
+// How long the lines of all n accounts are.
+fn lines_length(b: &[u8], n: usize) -> usize
+    requires { ⌜ (bookRefusal (now b) ≡ 0) × (n ≡ accounts (now b)) ⌝ }
+    ensures { λ r. ⌜ (r ≡ length (linesOf 0 (decode (now (b .entry))))) × (r ≤ 113 * n) ⌝ }
+{
+    let mut sum: usize = 0;
+    let mut i: usize = 0;
+    while i < n {
+        sum += account_length(b, i);
+        i += 1;
+    }
+    sum
+}
+
+// Whether output of room bytes is too short for the text. Mostly the room is plenty, and nothing has to be posted for it.
+fn is_short(b: &[u8], n: usize, room: usize) -> bool
+    requires { ⌜ (bookRefusal (now b) ≡ 0) × (n ≡ accounts (now b)) ⌝ }
+    ensures { λ r. ⌜ r ≡ ltb room (length (listing (now (b .entry)))) ⌝ }
+{
+    if 39 + 113 * n <= room {
+        return false;
+    }
+    room < 39 + lines_length(b, n)
+}
+
+// Stores the heading and the lines, where the output is long enough.
+fn put_listing(b: &[u8], n: usize, out: &mut [u8]) -> usize
+    requires { ⌜ (bookRefusal (now b) ≡ 0) × (n ≡ accounts (now b)) × (length (listing (now b)) ≤ length (now out)) ⌝ }
+    ensures { λ r. ⌜ Put (listing (now (b .entry))) (now (out .entry)) (now (out .exit)) 0 r ⌝ }
+{
+    let heading = HEADING;
+    let p = put_bytes(out, 0, &heading);
+    put_lines(b, n, out, p)
+}
+
+// The text for a book that is refused with n.
+fn put_refusal(out: &mut [u8], n: u8) -> Printed
+    ensures { λ r. ⌜ Wrote (refusedText n) (now (out .entry)) (now (out .exit)) r ⌝ }
+{
+    let number = n as u64;
+    if out.len() < 14 + width(number) {
+        return Printed::Refused(22);
+    }
+    let words = BOOK_REFUSED;
+    let p = put_bytes(out, 0, &words);
+    Printed::Bytes(put_number(out, p, number, b'\n'))
+}
+
+// The standing of every account of the book b, written into out.
+pub fn report(b: &[u8], out: &mut [u8]) -> Printed
+    ensures { λ r. ⌜ Reported (now (b .entry)) (now (out .entry)) (now (out .exit)) r ⌝ }
+{
+    let refusal = book::book_refusal(b);
+    if refusal != 0 {
+        return put_refusal(out, refusal);
+    }
+    let n = get(b, 0, 4) as usize;
+    if is_short(b, n, out.len()) {
+        return Printed::Refused(22);
+    }
+    Printed::Bytes(put_listing(b, n, out))
+}
+
+// The same for what the program `standing` read: more than 65,536 bytes are refused with 20.
+pub fn report_input(b: &[u8], out: &mut [u8]) -> Printed
+    ensures { λ r. ⌜ Wrote (inputText (now (b .entry))) (now (out .entry)) (now (out .exit)) r ⌝ }
+{
+    if 65_536 < b.len() {
+        return put_refusal(out, 20);
+    }
+    report(b, out)
+}
