@@ -2,10 +2,16 @@
 use account::Account;
 use account::Replayed;
 use account::replay::refusals;
+use layout::Outcome;
 ghost use mathlib.Core.Path.{_≡_};
+ghost use mathlib.Core.List.{[]};
+ghost use Prim.Native.Nat.{_≤_};
+ghost use lib.ListN.{length};
+ghost use lib.Seq.{sets};
 ghost use Rattle.layout.specs.Book.{bookRefusal};
 ghost use Rattle.layout.specs.Finding.{accountOf};
 ghost use Rattle.account.specs.Replay.{Shown};
+ghost use Rattle.bookpost.specs.History.{numbersOf, owedFrom, historyRefusal, Told};
 
 // Account i of an accepted book, posted record by record to a fresh account, and how many records were refused.
 pub fn post_account(b: &[u8], i: usize) -> Replayed
@@ -27,4 +33,52 @@ pub fn post_account(b: &[u8], i: usize) -> Replayed
         left -= 1;
     }
     Replayed { account, refused }
+}
+
+// Notes the answer to each record of account i and what is owed after it, from the start of both slices on.
+fn note_account(b: &[u8], i: usize, numbers: &mut [u8], owed: &mut [i64])
+    requires { ⌜ (bookRefusal (now b) ≡ 0) × (length (accountOf (now b) i) ≤ length (now numbers)) × (length (accountOf (now b) i) ≤ length (now owed)) ⌝ }
+    ensures { λ _. ⌜ (now (numbers .exit) ≡ sets (now (numbers .entry)) 0 (numbersOf (accountOf (now (b .entry)) i))) × (now (owed .exit) ≡ sets (now (owed .entry)) 0 (owedFrom [] (accountOf (now (b .entry)) i))) ⌝ }
+{
+    let s = book::account(b, i);
+    let mut k = s.first;
+    let mut left = s.count;
+    let mut at: usize = 0;
+    let mut account = Account::fresh();
+    while 0 < left {
+        let p = account.post(book::record(b, k));
+        let answer = p.answer;
+        let next = p.account;
+        numbers[at] = answer.number();
+        owed[at] = next.owed();
+        account = next;
+        k += 1;
+        at += 1;
+        left -= 1;
+    }
+}
+
+// 0, or the number that refuses the history of account i for slices of n and m places.
+fn history_refusal(b: &[u8], i: usize, n: usize, m: usize) -> u8
+    ensures { λ r. ⌜ r ≡ historyRefusal (now (b .entry)) i n m ⌝ }
+{
+    let refusal = book::book_refusal(b);
+    if refusal != 0 {
+        return refusal;
+    }
+    let s = book::account(b, i);
+    basics::select8((s.count <= n) & (s.count <= m), 0, 22)
+}
+
+// The history of account i: the number of the answer to each record, 0 for accepted, and what is owed after it. An account
+// past the last has no records. A slice longer than the history keeps its tail; a refusal changes nothing.
+pub fn history(b: &[u8], i: usize, numbers: &mut [u8], owed: &mut [i64]) -> Outcome
+    ensures { λ r. ⌜ Told (now (b .entry)) i (now (numbers .entry)) (now (numbers .exit)) (now (owed .entry)) (now (owed .exit)) r ⌝ }
+{
+    let n = history_refusal(b, i, numbers.len(), owed.len());
+    if n != 0 {
+        return Outcome::Stopped(n);
+    }
+    note_account(b, i, numbers, owed);
+    Outcome::Done
 }

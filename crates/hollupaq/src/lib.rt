@@ -1,9 +1,10 @@
 // The core for programs in other languages: a static library with plain names. include/hollupaq.h says the same in C.
+use bookpost::history;
 use report::Printed;
 use report::report;
 ghost use mathlib.Core.Path.{_≡_};
 ghost use Rattle.report.specs.Report.{textOf};
-ghost use Rattle.hollupaq.specs.Plain.{Written, bytesOf};
+ghost use Rattle.hollupaq.specs.Plain.{Written, bytesOf, Noted};
 
 // How many bytes were written, 0 where the output was too short.
 fn bytes_of(p: Printed) -> u64
@@ -23,4 +24,20 @@ pub extern "C" fn hollupaq_report(book: &[u8], out: &mut [u8]) -> u64
 {
     let p = report(book, out);
     bytes_of(p)
+}
+
+// The history of one account, counted from 0: for each of its records the number of the answer, 0 for accepted, and what is
+// owed after it, in cents. The answer is 0; or 20 or 21 where the book is refused, or 22 where one of the slices is shorter
+// than the account has records, and then both stay as they were. An account past the last has no records.
+#[no_mangle]
+pub extern "C" fn hollupaq_history(
+    book: &[u8],
+    account: usize,
+    numbers: &mut [u8],
+    owed: &mut [i64],
+) -> u8
+    ensures { λ r. ⌜ Noted (now (book .entry)) account (now (numbers .entry)) (now (numbers .exit)) (now (owed .entry)) (now (owed .exit)) r ⌝ }
+{
+    let o = history(book, account, numbers, owed);
+    o.number()
 }

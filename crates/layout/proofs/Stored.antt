@@ -7,21 +7,17 @@ use native.Mathlib.Omega.{arith}
 use borrow.Author.Tests.{leb-true}
 use lib.Dec.{leb}
 use lib.ListN.{length, drop, getD, length-map}
-use lib.Seq.{sets, sets-eq}
+use lib.Seq.{sets}
 use Rattle.rules.specs.declared.Event.{Event}
 use Rattle.rules.specs.Kinds.{closing}
 use Rattle.basics.proofs.Cases.{and-left, and-right}
 use Rattle.little.specs.Little.{top, Under}
+use Rattle.little.proofs.Stores.{sets-front}
 use Rattle.layout.specs.Book.{AccountList, longest, kindFine, bookRefusal, accounts, records, base, eventsAt, countsAt, decode, bookOf, encode}
 use Rattle.layout.specs.Lent.{after, kindsFine, writeRefusal, lent, lentList, total, kindsOf, optionsOf, daysOf, amountsOf, Left}
 use Rattle.layout.specs.Facts.{Storable, Room, Fits}
 use Rattle.layout.proofs.Told.{unchanged, write-facts}
 use Rattle.layout.proofs.Trips.{book-decoded, book-fine, flat-split, lengths-split, decode-parts, length-counts, length-events, length-book}
-
-sets-front : (new old : List ℕ) → length new ≤ length old → sets old 0 new ≡ after 0 new old
-sets-front new old h =
-    let z : 0 + length new ≡ length new = omega arith in
-    sets-eq new old 0 (omega arith) ∙ ap (λ k. new ++ drop k old) z
 
 pub length-lent : (n i : ℕ) (ks os ds ms : List ℕ) → length (lent n i ks os ds ms) ≡ n
 length-lent zero i ks os ds ms = refl

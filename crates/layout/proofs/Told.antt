@@ -55,7 +55,7 @@ pub stopped : (n : ℕ) → (n ≡ 0 → ⊥) → Stopped n ≡ outcomeOf n
 stopped zero h = absurd (h refl)
 stopped (suc n) h = refl
 
-pub unchanged : (n : ℕ) (new old : List ℕ) → (n ≡ 0 → ⊥) → old ≡ after n new old
+pub unchanged : {A : Type 0} (n : ℕ) (new old : List A) → (n ≡ 0 → ⊥) → old ≡ after n new old
 unchanged zero new old h = absurd (h refl)
 unchanged (suc n) new old h = refl
 

@@ -11,7 +11,7 @@ use Rattle.layout.specs.Answers.{outcomeOf}
 use Rattle.layout.specs.Book.{AccountList, all, size, mostAccounts, longest, kindFine, accounts, records, bookRefusal, split, flat, encode, decode}
 
 -- lent memory after a call with this number: what is new and then the old tail, or all as it was
-abbrev pub after : ℕ → List ℕ → List ℕ → List ℕ
+abbrev pub after : {A : Type 0} → ℕ → List A → List A → List A
 after zero new old = new ++ drop (length new) old
 after (suc n) new old = old
 

@@ -8,9 +8,9 @@ use native.Mathlib.Numerals.{add-one}
 use borrow.Author.Tests.{lt-ltb, le-ltb}
 use lib.Dec.{ltb}
 use lib.ListN.{length, drop, length-append, drop-of-length-le}
-use lib.Seq.{sets, sets-eq, drop-cons, length-sets}
+use lib.Seq.{sets, drop-cons, length-sets}
 use Rattle.basics.specs.Ascii.{ascii}
-use Rattle.little.proofs.Stores.{sets-then}
+use Rattle.little.proofs.Stores.{sets-front, sets-then}
 use Rattle.layout.specs.Book.{AccountList, mostAccounts, accounts, bookRefusal, decode}
 use Rattle.layout.specs.Finding.{accountOf}
 use Rattle.layout.proofs.Told.{book-facts}
@@ -110,10 +110,9 @@ module _ (text old : List ℕ) where
   pub written : (new : List ℕ) (r : ℕ) → length text ≤ length old → Put text old new 0 r → Wrote text old new (Bytes r)
   written new r h p =
       let f = le-ltb (length old) (length text) h in
-      let z : 0 + length text ≡ length text = omega arith in
       record {
         answer = rw f (ap Bytes (p .end ∙ omega arith));
-        bytes = rw f (p .bytes ∙ (sets-eq text old 0 (omega arith) ∙ ap (λ k. text ++ drop k old) z));
+        bytes = rw f (p .bytes ∙ sets-front text old h);
       }
 
   pub too-short : length old < length text → Wrote text old old (Refused 22)

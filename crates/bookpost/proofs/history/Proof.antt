@@ -1,0 +1,45 @@
+use mathlib.Core.Path.{sym, ap, _∙_}
+use Rattle.layout.specs.declared.Outcome.the-variants.{Stopped}
+use Rattle.layout.specs.Answers.{outcomeOf}
+use Rattle.layout.proofs.Told.{stopped, unchanged}
+use Rattle.bookpost.proofs.Noting.{history-room, history-told}
+use borrow.Author.Needs.{needs}
+use Rattle.bookpost.proofs.history.Statement.{statement}
+use Rattle.bookpost.proofs.history.Tie as tie
+
+history-refusal-requires : tie.Need-history-refusal-requires
+history-refusal-requires c κs = search needs
+
+returns : tie.Need-returns
+returns c =
+    let e = c .before .history-refusal .ensures in
+    let z = rw e at (c .if1 .taken) in
+    record { answer = ap (λ n. Stopped n) e ∙ stopped _ z; numbers = unchanged _ _ _ z; owing = unchanged _ _ _ z }
+
+note-account-requires : tie.Need-note-account-requires
+note-account-requires c κs =
+    let s = c .before .before .before .before .before .before .args in
+    history-room (s .b .now) (s .i) (s .numbers .now) (s .owed .now) (sym (c .before .before .before .history-refusal .ensures) ∙ c .before .before .if1 .left)
+
+same-length : tie.Need-same-length
+same-length c = search needs
+
+same-length-2 : tie.Need-same-length-2
+same-length-2 c = search needs
+
+returns-2 : tie.Need-returns-2
+returns-2 c =
+    let s = c .before .before .before .before .before .before .before .before .before .before .args in
+    let e = sym (c .before .before .before .before .before .before .before .history-refusal .ensures) ∙ c .before .before .before .before .before .before .if1 .left in
+    history-told (s .b .now) (s .i) (s .numbers .now) (s .owed .now) e _ _ (c .before .before .before .note-account .ensures .0) (c .before .before .before .note-account .ensures .1)
+
+pub history-spec : {M : Type 1} → statement M
+history-spec =
+    tie.close
+    (tie.spec
+    history-refusal-requires
+    returns
+    note-account-requires
+    same-length
+    same-length-2
+    returns-2)
