@@ -1,0 +1,63 @@
+//! Turns the readable text of a book into the book, and back.
+use std::env;
+use std::process::ExitCode;
+use tools::{book, core, files, text, words};
+
+const USAGE: &str = "\
+bookfile pack [TEXT [BOOK]]     makes the book of a text
+bookfile unpack [BOOK [TEXT]]   makes the text of a book
+Without file names, or with -, it reads from standard input and writes to standard output.";
+
+/// Makes the output of the input, or says in words why it can't.
+type Turn = fn(&[u8]) -> Result<Vec<u8>, String>;
+
+fn main() -> ExitCode {
+    let arguments: Vec<String> = env::args_os()
+        .skip(1)
+        .map(|argument| argument.to_string_lossy().into_owned())
+        .collect();
+    let arguments: Vec<&str> = arguments.iter().map(String::as_str).collect();
+    let (turn, names): (Turn, _) = match arguments[..] {
+        ["pack", ref names @ ..] if names.len() <= 2 => (pack, names),
+        ["unpack", ref names @ ..] if names.len() <= 2 => (unpack, names),
+        _ => {
+            eprintln!("{USAGE}");
+            return ExitCode::from(2);
+        }
+    };
+    match run(turn, names) {
+        Ok(()) => ExitCode::SUCCESS,
+        Err(words) => {
+            eprintln!("bookfile: {words}");
+            ExitCode::FAILURE
+        }
+    }
+}
+
+fn run(turn: Turn, names: &[&str]) -> Result<(), String> {
+    let from = names.first().copied().unwrap_or("-");
+    let to = names.get(1).copied().unwrap_or("-");
+    let output = turn(&files::read(from)?)?;
+    files::write(to, &output)
+}
+
+fn pack(input: &[u8]) -> Result<Vec<u8>, String> {
+    let input = String::from_utf8_lossy(input);
+    let list = text::read(&input).map_err(|mistake| mistake.to_string())?;
+    let book = book::encode(&list);
+    accepted(&book)?;
+    Ok(book)
+}
+
+fn unpack(input: &[u8]) -> Result<Vec<u8>, String> {
+    accepted(input)?;
+    text::write(&book::decode(input)).map(String::into_bytes)
+}
+
+/// Only the core says which bytes are a book.
+fn accepted(book: &[u8]) -> Result<(), String> {
+    match core::book_refusal(book) {
+        None => Ok(()),
+        Some(number) => Err(format!("book refused {number}: {}", words::meaning(number))),
+    }
+}

@@ -1,0 +1,11 @@
+//! What the tools, the tests and the benchmark share: events, the book file, its readable text, and the proved core.
+
+pub mod book;
+pub mod core;
+pub mod event;
+pub mod files;
+pub mod hints;
+pub mod kinds;
+pub mod story;
+pub mod text;
+pub mod words;

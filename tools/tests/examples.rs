@@ -1,0 +1,84 @@
+//! The books of examples/: text, book and standing belong together.
+use std::fs;
+use std::path::{Path, PathBuf};
+use tools::{book, core, text};
+
+fn folder() -> PathBuf {
+    Path::new(env!("CARGO_MANIFEST_DIR")).join("../examples")
+}
+
+fn read(name: &str, ending: &str) -> Vec<u8> {
+    let path = folder().join(format!("{name}.{ending}"));
+    fs::read(&path).unwrap_or_else(|e| panic!("{}: {e}", path.display()))
+}
+
+/// The names of all example texts.
+fn names() -> Vec<String> {
+    let mut names: Vec<String> = fs::read_dir(folder())
+        .unwrap()
+        .map(|entry| entry.unwrap().path())
+        .filter(|path| path.extension().is_some_and(|ending| ending == "txt"))
+        .map(|path| path.file_stem().unwrap().to_str().unwrap().to_string())
+        .collect();
+    names.sort();
+    names
+}
+
+#[test]
+fn there_are_four() {
+    let expected = [
+        "deposit-way",
+        "family-in-arrears",
+        "sample",
+        "shop-with-returned-checks",
+    ];
+    assert_eq!(names(), expected);
+}
+
+#[test]
+fn each_text_packs_to_its_book() {
+    for name in names() {
+        let list = text::read(&String::from_utf8(read(&name, "txt")).unwrap()).unwrap();
+        assert_eq!(book::encode(&list), read(&name, "book"), "{name}");
+    }
+}
+
+#[test]
+fn each_book_unpacks_and_packs_again() {
+    for name in names() {
+        let book = read(&name, "book");
+        let unpacked = text::write(&book::decode(&book)).unwrap();
+        assert_eq!(
+            book::encode(&text::read(&unpacked).unwrap()),
+            book,
+            "{name}"
+        );
+    }
+}
+
+#[test]
+fn each_book_stands_as_written() {
+    for name in names() {
+        let standing = core::report(&read(&name, "book"));
+        assert_eq!(standing, read(&name, "standing"), "{name}");
+    }
+}
+
+/// A remark that begins with `refused` stands exactly on the lines that the core refuses.
+#[test]
+fn the_remarks_tell_what_is_refused() {
+    for name in names() {
+        let told = String::from_utf8(read(&name, "txt")).unwrap();
+        let remarks: Vec<bool> = told
+            .lines()
+            .filter(|line| line.starts_with("  "))
+            .map(|line| line.contains("# refused"))
+            .collect();
+        let book = read(&name, "book");
+        let answers: Vec<bool> = (0..book::accounts(&book))
+            .flat_map(|account| core::history(&book, account).unwrap())
+            .map(|reply| reply.number != 0)
+            .collect();
+        assert_eq!(remarks, answers, "{name}");
+    }
+}
