@@ -1,0 +1,259 @@
+//! Runs the core, by its static library and as the program `standing`, against the peer.
+//!
+//! `compare [PROGRAM] [--seed N] [--books N]`: the program is target/bin/standing if none is named.
+//! The same seed gives the same books. Fewer than some thousand books do not reach everything that is asked of them.
+use std::env;
+use std::path::{Path, PathBuf};
+use std::process::ExitCode;
+use tests::books::{self, Book};
+use tests::coverage::Coverage;
+use tests::damage;
+use tests::library::{self, Lent};
+use tests::peer;
+use tests::program::{self, Feed};
+use tests::random::Random;
+use tests::show::count;
+use tests::tally::Tally;
+
+struct Wanted {
+    program: PathBuf,
+    seed: u64,
+    books: u64,
+}
+
+fn main() -> ExitCode {
+    let wanted = match arguments() {
+        Ok(wanted) => wanted,
+        Err(words) => {
+            eprintln!("{words}\nusage: compare [PROGRAM] [--seed N] [--books N]");
+            return ExitCode::from(2);
+        }
+    };
+    let mut tally = Tally::default();
+    let library = by_library(&wanted);
+    library.coverage.print();
+    library.tell(&mut tally);
+    particular_books(&wanted, &mut tally);
+    by_program(&wanted, &mut tally);
+    if tally.finish() {
+        ExitCode::SUCCESS
+    } else {
+        ExitCode::FAILURE
+    }
+}
+
+fn arguments() -> Result<Wanted, String> {
+    let mut wanted = Wanted {
+        program: PathBuf::from("target/bin/standing"),
+        seed: 1,
+        books: 24_000,
+    };
+    let mut words = env::args().skip(1);
+    while let Some(word) = words.next() {
+        let mut number = || {
+            let number = words.next().and_then(|word| word.parse().ok());
+            number.ok_or(format!("{word} wants a number"))
+        };
+        match word.as_str() {
+            "--seed" => wanted.seed = number()?,
+            "--books" => wanted.books = number()?,
+            _ if word.starts_with('-') => return Err(format!("{word} is not known")),
+            _ => wanted.program = PathBuf::from(word),
+        }
+    }
+    Ok(wanted)
+}
+
+/// What the books by the library showed.
+#[derive(Default)]
+struct ByLibrary {
+    coverage: Coverage,
+    good: Group,
+    damaged: Group,
+    histories: Group,
+    beginnings: Group,
+    exact: Group,
+    longer: Group,
+    shorter: Group,
+}
+
+/// How often something was tried, and what spoke against it.
+#[derive(Default)]
+struct Group {
+    tried: usize,
+    against: Vec<String>,
+}
+
+impl Group {
+    /// Tries once more, unless it failed so often already that more would only take time.
+    fn try_one(&mut self, difference: impl FnOnce() -> Option<String>) {
+        if self.against.len() < 3 {
+            self.tried += 1;
+            self.against.extend(difference());
+        }
+    }
+
+    /// Something that was never tried has not passed.
+    fn tell(&self, tally: &mut Tally, what: &str) {
+        let name = format!("{} {what}", count(self.tried));
+        if self.tried == 0 {
+            tally.check(&name, &[String::from("  never tried")]);
+        } else {
+            tally.check(&name, &self.against);
+        }
+    }
+}
+
+fn by_library(wanted: &Wanted) -> ByLibrary {
+    let mut all = ByLibrary::default();
+    for index in 0..wanted.books {
+        let book = books::book(wanted.seed, index);
+        let expected = peer::report(&book.bytes);
+        all.coverage.book(&expected);
+        for history in &book.histories {
+            all.coverage.history(&history.events, &history.posted);
+        }
+        let group = if book.damaged {
+            &mut all.damaged
+        } else {
+            &mut all.good
+        };
+        group.try_one(|| library::compare_report(&book.bytes, &expected));
+        // A text that differs was shown, and would differ in any memory.
+        if library::agrees(&book.bytes, &expected) {
+            all.lend(index, &book.bytes, &expected);
+        }
+        if book.is_good() {
+            all.replies(&book);
+        }
+        if index % 16 == 0 {
+            all.beginnings(&book);
+        }
+    }
+    all
+}
+
+impl ByLibrary {
+    /// One kind of memory for each book in turn.
+    fn lend(&mut self, index: u64, book: &[u8], expected: &[u8]) {
+        let some = 1 + index as usize / 6 % 200;
+        let (group, lent) = match index % 6 {
+            0 => (&mut self.exact, Lent::Exact),
+            1 => (&mut self.longer, Lent::Longer(1)),
+            2 => (&mut self.longer, Lent::Longer(some)),
+            3 => (&mut self.shorter, Lent::Shorter(some)),
+            _ => (&mut self.shorter, Lent::Shorter(1)),
+        };
+        group.try_one(|| library::compare_lent(book, expected, lent));
+    }
+
+    fn replies(&mut self, book: &Book) {
+        let list = book.list();
+        for account in 0..list.len() {
+            let history = || library::compare_history(&list, account);
+            self.histories.try_one(history);
+        }
+    }
+
+    /// The standing after each event: all beginnings of a history are the accounts of one book.
+    fn beginnings(&mut self, book: &Book) {
+        let history = &book.histories[0].events;
+        let book = books::beginnings(history);
+        let expected = peer::report(&book);
+        self.beginnings
+            .try_one(|| library::compare_report(&book, &expected));
+    }
+
+    fn tell(&self, tally: &mut Tally) {
+        for (demand, missing) in self.coverage.demands() {
+            tally.check(&format!("reached: {demand}"), &missing);
+        }
+        self.good.tell(tally, "books by the library");
+        self.damaged.tell(tally, "damaged books by the library");
+        self.histories.tell(
+            tally,
+            "accounts by the library, each answer and what is owed after it",
+        );
+        self.beginnings.tell(
+            tally,
+            "histories by the library, the standing after each event",
+        );
+        self.exact.tell(tally, "texts in memory of their length");
+        self.longer
+            .tell(tally, "texts in longer memory, the tail as it was");
+        self.shorter
+            .tell(tally, "texts refused in shorter memory, all as it was");
+    }
+}
+
+fn particular_books(wanted: &Wanted, tally: &mut Tally) {
+    let mut group = Group::default();
+    let mut random = Random::new(wanted.seed);
+    let mut list = damage::particular(&mut random);
+    for accounts in [1, 41, 999] {
+        list.push(books::of_length(65_536, accounts, &mut random));
+    }
+    for book in list {
+        group.try_one(|| library::compare_report(&book, &peer::report(&book)));
+    }
+    group.tell(
+        tally,
+        "short books and books of many accounts by the library",
+    );
+}
+
+/// Files for the program, fewer than for the library since each is a process.
+fn by_program(wanted: &Wanted, tally: &mut Tally) {
+    let program = &wanted.program;
+    let (mut whole, mut damaged, mut pieces) =
+        (Group::default(), Group::default(), Group::default());
+    for index in 0..600 {
+        // Not the books that the library had.
+        let book = books::book(!wanted.seed, index);
+        let size = [1, 5, 8, 16, 100, 4_096][index as usize % 6];
+        let (group, feed) = match index % 3 {
+            0 => (&mut pieces, Feed::Pieces(size)),
+            _ if book.damaged => (&mut damaged, Feed::Whole),
+            _ => (&mut whole, Feed::Whole),
+        };
+        group.try_one(|| program::compare(program, &book.bytes, feed));
+    }
+    whole.tell(tally, "books by the program");
+    damaged.tell(tally, "damaged books by the program");
+    pieces.tell(tally, "books by the program, read in small pieces");
+    for (name, file) in long_files(wanted.seed) {
+        tally.check(
+            &format!("{name} by the program"),
+            &both_ways(program, &file),
+        );
+    }
+}
+
+fn both_ways(program: &Path, file: &[u8]) -> Vec<String> {
+    let feeds = [Feed::Whole, Feed::Pieces(1_000)];
+    let differences = feeds.map(|feed| program::compare(program, file, feed));
+    differences.into_iter().flatten().collect()
+}
+
+/// The empty file, and files about as long as the program reads.
+fn long_files(seed: u64) -> Vec<(&'static str, Vec<u8>)> {
+    let mut random = Random::new(seed);
+    let mut of_length = |length, accounts| books::of_length(length, accounts, &mut random);
+    let mut spare = of_length(65_536, 5);
+    spare[65_536 - 13] = 1;
+    let mut tail = of_length(65_536, 5);
+    tail.push(0);
+    vec![
+        ("the empty file", Vec::new()),
+        ("a book of no accounts", vec![0; 8]),
+        ("a book of 65,536 bytes", of_length(65_536, 41)),
+        (
+            "a book of 65,536 bytes and 1,023 accounts",
+            of_length(65_536, 1_023),
+        ),
+        ("a book of 65,536 bytes whose last record is damaged", spare),
+        ("a book of 65,536 bytes and one more", tail),
+        ("a longer good book", of_length(65_544, 40)),
+        ("a book of a million bytes", of_length(1_000_000, 501)),
+    ]
+}

@@ -1,0 +1,58 @@
+//! Modes about deposits and closing.
+use super::{ALL, COLLECTION, DEPOSIT};
+use crate::generator::Writer;
+use crate::make::*;
+use crate::peer::deposit::{held, required};
+use crate::peer::kind::*;
+
+pub fn deposits(w: &mut Writer) {
+    let steps = w.random.below(6);
+    w.walk(steps, &COLLECTION);
+    for _ in 0..w.random.between(1, 3) {
+        fill_deposit(w);
+        let full = w.today();
+        for _ in 0..w.random.below(4) {
+            w.go_to_cut();
+            if w.random.once_in(2) {
+                w.go_to_reconnection();
+            }
+        }
+        // A refused move changes nothing: every day next to a bound may be asked for.
+        for day in w.edge_days() {
+            if day >= full.saturating_add(364) {
+                w.post(deposit_moved(day));
+            }
+        }
+        let steps = w.random.below(6);
+        w.walk(steps, &DEPOSIT);
+        w.post(deposit_moved(w.later(1)));
+    }
+    let steps = w.random.below(30);
+    w.walk(steps, &[&DEPOSIT[..], &COLLECTION].concat());
+}
+
+/// Asks for a deposit, if none is asked for, and pays it to the last cent.
+pub fn fill_deposit(w: &mut Writer) {
+    let today = w.today();
+    w.guided(DEPOSIT_ASKED, today);
+    w.guided(DEPOSIT_PAID, today);
+    w.guided(DEPOSIT_PAID, w.later(1));
+    let rest = required(w.accepted()) - held(w.accepted());
+    if rest > 0 {
+        w.post(deposit_paid(w.today(), rest as u64));
+    }
+}
+
+pub fn closed(w: &mut Writer) {
+    let steps = w.random.between(1, 20);
+    w.walk(steps, &ALL[..15]);
+    if w.random.once_in(2) {
+        w.go_to_cut();
+    }
+    fill_deposit(w);
+    let day = w.within(0, 1);
+    w.post(close(day));
+    let steps = w.random.between(3, 12);
+    w.walk(steps, &[PAYMENT, RETURNED, PAYOUT, PAYOUT]);
+    w.walk(6, &ALL);
+}

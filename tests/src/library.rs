@@ -1,0 +1,122 @@
+//! The core by its static library against the peer, book by book.
+use crate::peer::money::Money;
+use crate::peer::{self, post_all};
+use crate::{show, shrink};
+use tools::core;
+use tools::event::Event;
+
+/// Room for the text of any book.
+const ROOM: usize = 131_072;
+/// What lies in memory before the core writes to it.
+const FILL: u8 = 165;
+
+/// What a call costs beside its events, in the units of the shrinking.
+const TRY: u64 = 10_000;
+
+/// What the core writes for a book, where it writes anything.
+fn report(book: &[u8]) -> Option<Vec<u8>> {
+    let mut out = vec![FILL; ROOM];
+    let length = core::report_into(book, &mut out)?;
+    out.get(..length).map(<[u8]>::to_vec)
+}
+
+/// Whether the core writes what is expected of a book.
+pub fn agrees(book: &[u8], expected: &[u8]) -> bool {
+    report(book).as_deref() == Some(expected)
+}
+
+/// A book whose text differs, shrunk, with both texts; nothing where they agree.
+pub fn compare_report(book: &[u8], expected: &[u8]) -> Option<String> {
+    if agrees(book, expected) {
+        return None;
+    }
+    let differs = |book: &[u8]| !agrees(book, &peer::report(book));
+    let (small, shown) = shrink_book(book, TRY, &differs);
+    let found = report(&small).unwrap_or(b"no answer\n".to_vec());
+    Some(shown + &show::texts(&peer::report(&small), &found))
+}
+
+/// Shrinks a book as a list of events where it is one, else as bytes, and puts it in words.
+pub fn shrink_book(book: &[u8], each: u64, differs: &dyn Fn(&[u8]) -> bool) -> (Vec<u8>, String) {
+    let by_list = |list: &[Vec<Event>]| differs(&tools::book::encode(list));
+    match peer::book::accounts(book) {
+        Ok(list) if by_list(&list) => {
+            let small = shrink::list(list, each, &by_list);
+            (tools::book::encode(&small), show::accounts(&small))
+        }
+        _ => {
+            let small = shrink::bytes(book.to_vec(), each, differs);
+            let shown = show::bytes(&small);
+            (small, shown)
+        }
+    }
+}
+
+/// How long the memory is that is lent for a text.
+#[derive(Clone, Copy, Debug)]
+pub enum Lent {
+    Exact,
+    Longer(usize),
+    Shorter(usize),
+}
+
+/// What is wrong with the text in memory of a given length: too short is no answer and no change, and a tail stays.
+pub fn compare_lent(book: &[u8], expected: &[u8], lent: Lent) -> Option<String> {
+    let length = match lent {
+        Lent::Exact => expected.len(),
+        Lent::Longer(by) => expected.len() + by,
+        Lent::Shorter(by) => expected.len().saturating_sub(by),
+    };
+    let mut out = vec![FILL; length];
+    let answer = core::report_into(book, &mut out);
+    let mut wanted = vec![FILL; length];
+    let mut wanted_answer = None;
+    if expected.len() <= length {
+        wanted[..expected.len()].copy_from_slice(expected);
+        wanted_answer = Some(expected.len());
+    }
+    let fine = answer == wanted_answer && out == wanted;
+    (!fine).then(|| {
+        let shown = show::bytes(book);
+        format!("{shown}  {length} bytes lent ({lent:?}), answer {answer:?}, not {wanted_answer:?}")
+    })
+}
+
+/// The number and what is owed after it, for each event.
+fn replies(events: &[Event]) -> Vec<(u8, i64)> {
+    let posted = post_all(events);
+    let money = Money::of(&posted.accepted);
+    let mut accepted = 0;
+    let owed = |&number: &u8| {
+        accepted += usize::from(number == 0);
+        (number, money.owed_after(accepted))
+    };
+    posted.answers.iter().map(owed).collect()
+}
+
+/// The same by the core.
+fn core_replies(book: &[u8], account: usize) -> Result<Vec<(u8, i64)>, u8> {
+    let replies = core::history(book, account)?;
+    Ok(replies.iter().map(|r| (r.number, r.owed)).collect())
+}
+
+/// An account of a good book whose answers differ somewhere, shrunk.
+pub fn compare_history(list: &[Vec<Event>], account: usize) -> Option<String> {
+    let book = tools::book::encode(list);
+    if core_replies(&book, account) == Ok(replies(&list[account])) {
+        return None;
+    }
+    let alone = |list: &[Vec<Event>]| {
+        let book = tools::book::encode(list);
+        (0..list.len()).any(|at| core_replies(&book, at) != Ok(replies(&list[at])))
+    };
+    let small = shrink::list(list.to_vec(), TRY, &alone);
+    let mut text = show::accounts(&small);
+    for (at, events) in small.iter().enumerate() {
+        let found = core_replies(&tools::book::encode(&small), at);
+        let expected = replies(events);
+        text += &format!("  account {at}, numbers with what is owed\n");
+        text += &format!("    expected: {expected:?}\n    found: {found:?}\n");
+    }
+    Some(text)
+}
