@@ -24,7 +24,7 @@ use Rattle.ledger.specs.OpenItems.{zeroItem, isOpen, openWith, listed, s
 use Rattle.ledger.specs.Ledger.{ledgerWith, newItem, ledgerAfter, ledgerOk, LedgerFit, LedgerRoom}
 
 -- ---- arrears: each part is within the limit, so the sum of 64 fits
-due-le : (p t : ℕ) (x : Item) → small x ≡ true → due p t x ≤ limit
+pub due-le : (p t : ℕ) (x : Item) → small x ≡ true → due p t x ≤ limit
 due-le p t x e =
     let a = leb-true (x .amount) limit e in
     on (leb (x .day + 20) t) (λ q. rw q (omega arith)) (λ q. rw q zero-le)

@@ -37,7 +37,7 @@ pub fn unpaid(x: Item, p: u64) -> u64
 }
 
 // The unpaid part of an item that is delinquent on day t, 0 of any other.
-fn due(x: Item, p: u64, t: u32) -> u64
+pub fn due(x: Item, p: u64, t: u32) -> u64
     ensures { λ r. ⌜ r ≡ dueOf p t x ⌝ }
 {
     basics::select64(basics::wide(x.day) + 20 <= basics::wide(t), unpaid(x, p), 0)

@@ -1,0 +1,102 @@
+use mathlib.Core.Path.{sym, _∙_}
+use Rattle.account.proofs.Steps.{well-formed, judged-first, judged-accepted, judged-refused}
+use Rattle.running.specs.Running.{accountOn}
+use Rattle.running.proofs.Judging.{judged-yes, judged-no}
+use borrow.Author.Needs.{needs}
+use Rattle.running.proofs.Running.judge.Statement.{statement}
+use Rattle.running.proofs.Running.judge.Tie as tie
+
+first-row-requires : tie.Need-first-row-requires
+first-row-requires c κs = search needs
+
+view-requires : tie.Need-view-requires
+view-requires c κs = search needs
+
+refusal-requires : tie.Need-refusal-requires
+refusal-requires c κs = search needs
+
+applied-requires : tie.Need-applied-requires
+applied-requires c κs = 
+    let s = c .before .before .before .before .before .before .before .before .before .before .before .before .before .before .before .before .before in
+    let g = s .args in
+    let a = accountOn (g .self) (g .days .now) (g .amounts .now) (g .uptos .now) (g .recent .now) in
+    (
+      s .pre,
+      record {
+        fit = s .pre .fit;
+        well = well-formed a (g .e) (sym (c .before .before .before .before .before .before .before .before .before .before .before .before .first-row .ensures) ∙ c .before .before .before .before .before .before .before .before .before .before .before .if1 .taken);
+        seen = c .before .before .before .before .before .before .view .ensures;
+        free = sym (c .before .before .before .before .before .refusal .ensures) ∙ c .before .before .before .before .if2 .taken;
+      },
+    )
+
+same-length : tie.Need-same-length
+same-length c = search needs
+
+same-length-2 : tie.Need-same-length-2
+same-length-2 c = search needs
+
+same-length-3 : tie.Need-same-length-3
+same-length-3 c = search needs
+
+same-length-4 : tie.Need-same-length-4
+same-length-4 c = search needs
+
+returns : tie.Need-returns
+returns c = 
+    let s = c .before .before .before .before .before .before .before .before .before .before .before .before .before .before .before .before .before .before .before .before .before .before .before .before .before .before in
+    let g = s .args in
+    let a = accountOn (g .self) (g .days .now) (g .amounts .now) (g .uptos .now) (g .recent .now) in
+    let v = c .before .before .before .before .before .before .before .before .before .before .before .before .before .before .before .view in
+    let k = c .before .before .before .before .before .before .before .before .applied in
+    judged-yes a (g .e) (v .result) _ (k .result) _ _ _ _
+    (judged-accepted a (g .e) (v .result) (sym (c .before .before .before .before .before .before .before .before .before .before .before .before .before .before .before .before .before .before .before .before .before .first-row .ensures) ∙ c .before .before .before .before .before .before .before .before .before .before .before .before .before .before .before .before .before .before .before .before .if1 .taken) (v .ensures) (sym (c .before .before .before .before .before .before .before .before .before .before .before .before .before .before .refusal .ensures) ∙ c .before .before .before .before .before .before .before .before .before .before .before .before .before .if2 .taken)) (k .ensures)
+
+same-length-5 : tie.Need-same-length-5
+same-length-5 c = search needs
+
+same-length-6 : tie.Need-same-length-6
+same-length-6 c = search needs
+
+same-length-7 : tie.Need-same-length-7
+same-length-7 c = search needs
+
+same-length-8 : tie.Need-same-length-8
+same-length-8 c = search needs
+
+returns-2 : tie.Need-returns-2
+returns-2 c = 
+    let s = c .before .before .before .before .before .before .before .before .before .before .before .before .before in
+    let g = s .args in
+    let a = accountOn (g .self) (g .days .now) (g .amounts .now) (g .uptos .now) (g .recent .now) in
+    let v = c .before .before .view in
+    let n = c .before .refusal in
+    judged-no (n .result) _ (g .self) _ _ _ _ (judged-refused a (g .e) (v .result) (n .result) (sym (c .before .before .before .before .before .before .before .before .first-row .ensures) ∙ c .before .before .before .before .before .before .before .if1 .taken) (v .ensures) (n .ensures) (c .if2 .left))
+
+returns-3 : tie.Need-returns-3
+returns-3 c = 
+    let s = c .before .before .before .before .before .before in
+    let g = s .args in
+    let a = accountOn (g .self) (g .days .now) (g .amounts .now) (g .uptos .now) (g .recent .now) in
+    let n = c .before .first-row in
+    judged-no (n .result) _ (g .self) _ _ _ _ (judged-first a (g .e) (n .result) (n .ensures) (c .if1 .left))
+
+pub judge-spec : {M : Type 1} → statement M
+judge-spec =
+    tie.close
+    (tie.spec
+    first-row-requires
+    view-requires
+    refusal-requires
+    applied-requires
+    same-length
+    same-length-2
+    same-length-3
+    same-length-4
+    returns
+    same-length-5
+    same-length-6
+    same-length-7
+    same-length-8
+    returns-2
+    returns-3)
