@@ -23,7 +23,7 @@ use Rattle.account.proofs.Demand.{demand-3}
 use Rattle.account.proofs.Steps.{account-fit, posted-yes}
 
 -- ---- one more event at the end
-run-more : (a : Account) (xs : List Event) (e : Event) → run a (xs ++ (e ∷ [])) ≡ posted (run a xs) e .account
+pub run-more : (a : Account) (xs : List Event) (e : Event) → run a (xs ++ (e ∷ [])) ≡ posted (run a xs) e .account
 run-more a [] e = refl
 run-more a (x ∷ xs) e = run-more (posted a x .account) xs e
 

@@ -1,10 +1,10 @@
 -- One turn of the posting: what is still to be posted, to the account so far, gives the account of the whole.
 use Prim.Native.Nat.{ℕ, suc, _+_, _-_, _≤_, _<_}
 use mathlib.Core.Path.{_≡_, refl, sym, ap, _∙_}
-use mathlib.Core.Bool.{cond}
-use mathlib.Core.List.{List, []}
+use mathlib.Core.Bool.{true, cond}
+use mathlib.Core.List.{List, [], _∷_, _++_}
 use native.Mathlib.Omega.{arith}
-use lib.ListN.{take, drop}
+use lib.ListN.{length, take, drop, replicate}
 use Rattle.rules.specs.declared.Event.{Event}
 use Rattle.layout.specs.declared.Span.{Span}
 use Rattle.layout.specs.Book.{records, bookRefusal, flat, decode}
@@ -12,12 +12,18 @@ use Rattle.layout.specs.Finding.{recordOf, accountOf, IsAccount}
 use Rattle.layout.proofs.Found.{walk-step}
 use Rattle.account.specs.declared.Account.{Account}
 use Rattle.account.specs.declared.Posted.{Posted}
-use Rattle.account.specs.Account.{fresh}
-use Rattle.account.specs.Post.{posted, run, answers}
+use Rattle.account.specs.Account.{fresh, accountOk}
+use Rattle.account.specs.Post.{judged, posted, run, answers}
 use Rattle.account.specs.Claim.{accepts, refusedIn}
-use Rattle.account.specs.Replay.{Shown}
 use Rattle.account.proofs.Demand.{demand-3}
-use Rattle.account.proofs.Walk.{one-at-most}
+use Rattle.account.proofs.Steps.{account-fit, posted-yes}
+use Rattle.account.proofs.Walk.{run-more, one-at-most}
+use Rattle.running.specs.declared.Running.{Running}
+use Rattle.running.specs.declared.Judged.{Judged}
+use Rattle.running.specs.Running.{accountOn, noRunning, Held, JudgedOn}
+use Rattle.running.proofs.Moves.{length-items}
+use Rattle.running.proofs.Judging.{held-of}
+use Rattle.bookpost.specs.Ran.{RanOver}
 
 -- the records that are left from record k on
 abbrev pub rest : List ℕ → ℕ → ℕ → List Event
@@ -69,12 +75,61 @@ module _ (b : List ℕ) (i k left : ℕ) (a : Account) (r : ℕ) (e : Event) (p 
         small = t .small;
       }
 
-pub finish : (b : List ℕ) (i k left : ℕ) (a : Account) (r : ℕ) → left ≡ 0 → Turning b i k left a r → Shown (record { account = a; refused = r }) (accountOf b i)
-finish b i k left a r z t =
-    let w : rest b left k ≡ [] = ap (λ n. rest b n k) z in
-    let p : a ≡ run fresh (accountOf b i) = sym (ap (run a) w) ∙ t .at in
-    record {
-      account-is = p;
-      refused-is = omega (arith, t .count, ap (λ l. refusedIn (answers a l)) w);
-      claim = rw p (demand-3 (accountOf b i));
-    }
+-- ---- in lent memory
+-- the account is that of the records before k, and the memory has the places that it wants
+pub record Running-on (b : List ℕ) (i k left : ℕ) (h : Running) (ds ms us ps : List ℕ) (r : ℕ) : Type 0 where
+  pub turning : Turning b i k left (accountOn h ds ms us ps) r
+  pub past : List Event
+  pub reached : accountOn h ds ms us ps ≡ run fresh past
+  pub days : length ds ≡ 64
+  pub amounts : length ms ≡ 64
+  pub uptos : length us ≡ 64
+  pub payments : length ps ≡ 32
+
+pub begin-on : (b : List ℕ) (i : ℕ) (s : Span) (h : Running) (ds ms us ps : List ℕ) → IsAccount b i s → h ≡ noRunning → ps ≡ replicate 32 0
+    → length ds ≡ 64 → length ms ≡ 64 → length us ≡ 64 → Running-on b i (s .first) (s .count) h ds ms us ps 0
+begin-on b i s h ds ms us ps a e z d m u =
+    let f : accountOn h ds ms us ps ≡ fresh = rw (e, z) in
+    record { turning = begin b i s (accountOn h ds ms us ps) a f; past = []; reached = f; days = d; amounts = m; uptos = u; payments = ap length z }
+
+module _ (b : List ℕ) (i k left : ℕ) (h : Running) (ds ms us ps : List ℕ) (r : ℕ) (t : Running-on b i k left h ds ms us ps r) where
+  passes : accountOk (accountOn h ds ms us ps) ≡ true
+  passes = rw (t .reached) (demand-3 (t .past) .passes)
+
+  pub held : Held h ds ms us ps
+  held = held-of h ds ms us ps (account-fit (accountOn h ds ms us ps) passes) (t .days) (t .amounts) (t .uptos) (t .payments)
+
+  pub turn-on : (e : Event) (p : Judged) (ds2 ms2 us2 ps2 : List ℕ) → bookRefusal b ≡ 0 → 0 < left → e ≡ recordOf b k
+      → JudgedOn (judged (accountOn h ds ms us ps) e) p ds2 ms2 us2 ps2 → length ds2 ≡ length ds → length ms2 ≡ length ms → length us2 ≡ length us → length ps2 ≡ length ps
+      → Running-on b i (k + 1) (left - 1) (p .account) ds2 ms2 us2 ps2 (r + p .refused)
+  turn-on e p ds2 ms2 us2 ps2 z l g j d m u q =
+      let a = accountOn h ds ms us ps in
+      let y = posted-yes a e passes in
+      record {
+        turning = rw (j .account-is) (turn b i k left a r e (judged a e) (p .refused) z l g y (j .refused-is) (t .turning));
+        past = t .past ++ (e ∷ []);
+        reached = j .account-is ∙ (ap (λ v. v .account) y ∙ (ap (λ x. posted x e .account) (t .reached) ∙ sym (run-more fresh (t .past) e)));
+        days = d ∙ t .days;
+        amounts = m ∙ t .amounts;
+        uptos = u ∙ t .uptos;
+        payments = q ∙ t .payments;
+      }
+
+  pub finish-on : left ≡ 0 → RanOver (record { account = h; refused = r }) (accountOf b i)
+  finish-on z =
+      let w : rest b left k ≡ [] = ap (λ n. rest b n k) z in
+      let a = accountOn h ds ms us ps in
+      let p : a ≡ run fresh (accountOf b i) = sym (ap (run a) w) ∙ t .turning .at in
+      record {
+        parts =
+            record {
+              charged-is = ap (λ x. x .ledger .charged) p;
+              credited-is = ap (λ x. x .ledger .credited) p;
+              paid-is = ap (λ x. x .ledger .«paid_out») p;
+              count-is = sym (length-items (h .sums .count) ds ms us) ∙ ap (λ x. x .ledger .items .count) p;
+              deposit-is = ap (λ x. x .deposit) p;
+              collection-is = ap (λ x. x .collection) p;
+            };
+        refused-is = omega (arith, t .turning .count, ap (λ l. refusedIn (answers a l)) w);
+        claim = demand-3 (accountOf b i);
+      }

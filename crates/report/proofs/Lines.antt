@@ -15,10 +15,11 @@ use Rattle.rules.specs.Service.{service, wordOf}
 use Rattle.rules.specs.Accepted.{accepted}
 use Rattle.ledger.specs.Ledger.{creditsBy}
 use Rattle.account.specs.declared.Account.{Account}
-use Rattle.account.specs.declared.Replayed.{Replayed}
-use Rattle.account.specs.Account.{accountOk}
+use Rattle.account.specs.Account.{fresh, accountOk}
+use Rattle.account.specs.Post.{run}
 use Rattle.account.specs.Questions.{owedBy}
-use Rattle.account.specs.Replay.{Shown}
+use Rattle.bookpost.specs.declared.Ran.{Ran}
+use Rattle.bookpost.specs.Ran.{RanOver}
 use Rattle.layout.specs.Book.{AccountList}
 use Rattle.text.specs.Decimal.{width, decimal, signed}
 use Rattle.text.proofs.Numerals.{length-decimal, length-marked, width-short, signed-short}
@@ -36,22 +37,23 @@ word-short Off = omega arith
 word-short Closed = omega arith
 
 -- where an account stands, by demand 3
-pub stands : (p : Replayed) (es : List Event) → Shown p es
+pub stands : (p : Ran) (es : List Event) → RanOver p es
     → Stands
     (record {
-      charged = p .account .ledger .charged;
-      credits = creditsBy (p .account .ledger);
+      charged = p .account .sums .charged;
+      credits = p .account .sums .credited - p .account .sums .«paid_out»;
       held = p .account .deposit .held;
-      «open_count» = p .account .ledger .items .count;
+      «open_count» = p .account .sums .count;
       service = p .account .collection .status .service;
       refused = p .refused;
     }) es (accepted es)
 stands p es s =
+    let k = s .parts in
     record {
-      owing = owes (p .account) (s .claim .passes) ∙ s .claim .owing;
-      holding = s .claim .holding;
-      opens = s .claim .counting;
-      serving = s .claim .serving;
+      owing = rw (k .charged-is, k .credited-is, k .paid-is) (owes (run fresh es) (s .claim .passes) ∙ s .claim .owing);
+      holding = ap (λ d. d .held) (k .deposit-is) ∙ s .claim .holding;
+      opens = k .count-is ∙ s .claim .counting;
+      serving = ap (λ c. c .status .service) (k .collection-is) ∙ s .claim .serving;
       refusing = omega (arith, s .refused-is, s .claim .refused);
     }
 

@@ -102,17 +102,19 @@ fn standing_of(b: &[u8], i: usize) -> Standing
     requires { ⌜ bookRefusal (now b) ≡ 0 ⌝ }
     ensures { λ r. ⌜ Stands r (accountOf (now (b .entry)) i) (accepted (accountOf (now (b .entry)) i)) ⌝ }
 {
-    let posted = post_account(b, i);
-    let a = posted.account;
-    let l = a.ledger;
-    let service = a.service();
+    let ran = post_account(b, i);
+    let a = ran.account;
+    let s = a.sums;
+    let d = a.deposit;
+    let c = a.collection;
+    let service = c.service();
     Standing {
-        charged: l.charged,
-        credits: l.credits(),
-        held: a.held(),
-        open_count: a.open_count(),
+        charged: s.charged,
+        credits: s.credits(),
+        held: d.held,
+        open_count: s.count as u64,
         service,
-        refused: posted.refused,
+        refused: ran.refused,
     }
 }
 

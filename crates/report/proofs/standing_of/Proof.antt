@@ -12,24 +12,11 @@ service-requires c κs = search needs
 credits-requires : tie.Need-credits-requires
 credits-requires c κs = search needs
 
-held-requires : tie.Need-held-requires
-held-requires c κs = search needs
-
-open-count-requires : tie.Need-open-count-requires
-open-count-requires c κs = search needs
-
 returns : tie.Need-returns
 returns c =
     let p = c .before .before .before .before .before .before .post-account in
-    rw (c .open-count .ensures, c .before .held .ensures, c .before .before .credits .ensures, c .before .before .before .service .ensures) (stands (p .result) _ (p .ensures))
+    rw (c .credits .ensures, c .before .service .ensures) (stands (p .result) _ (p .ensures))
 
 pub standing-of-spec : {M : Type 1} → statement M
 standing-of-spec =
-    tie.close
-    (tie.spec
-    post-account-requires
-    service-requires
-    credits-requires
-    held-requires
-    open-count-requires
-    returns)
+    tie.close (tie.spec post-account-requires service-requires credits-requires returns)

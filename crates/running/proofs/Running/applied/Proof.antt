@@ -22,7 +22,7 @@ credit-requires : tie.Need-credit-requires
 credit-requires c κs = search needs
 
 after-requires : tie.Need-after-requires
-after-requires c κs = 
+after-requires c κs =
     let s = c .before .before .before .before .before .before .before .before .before .before .before in
     let g = s .args in
     let a = accountOn (g .self) (g .days .now) (g .amounts .now) (g .uptos .now) (g .recent .now) in
@@ -30,19 +30,19 @@ after-requires c κs =
     (s .pre .0 .places, (s .pre .0 .fit .ledger-fit, rw (c .before .before .before .before .before .before .charges .ensures, n, c .before .before .before .before .credit .ensures) (ledger-room a (g .e) (g .v) (s .pre .1))))
 
 arrears-requires : tie.Need-arrears-requires
-arrears-requires c κs = 
+arrears-requires c κs =
     let s = c .before .before .before .before .before .before .before .before .before .before .before .before .before .before .before .before .before .before .before .before .before in
     let g = s .args in
     let a = accountOn (g .self) (g .days .now) (g .amounts .now) (g .uptos .now) (g .recent .now) in
     let n = charge-exact a (g .e) (g .v) (c .before .before .before .before .before .before .before .before .before .before .before .before .before .before .before .charge .result) (s .pre .1) (c .before .before .before .before .before .before .before .before .before .before .before .before .before .before .before .charge .ensures) in
     let k = c .before .before .before .before .before .before .before .before .before .after in
     let f : LedgerFit (ledgerOn (k .result) (k .last .1 .0) (k .last .1 .1 .0) (k .last .1 .1 .1 .0)) =
-      rw (k .ensures, c .before .before .before .before .before .before .before .before .before .before .before .before .before .before .before .before .charges .ensures, n, c .before .before .before .before .before .before .before .before .before .before .before .before .before .before .credit .ensures)
-      (ledger-kept (a .ledger) (g .e) (charges (g .e)) (chargeOf (g .v) (g .e)) (creditOf (g .v) (g .e)) (s .pre .0 .fit .ledger-fit) (ledger-room a (g .e) (g .v) (s .pre .1))) in
+    rw (k .ensures, c .before .before .before .before .before .before .before .before .before .before .before .before .before .before .before .before .charges .ensures, n, c .before .before .before .before .before .before .before .before .before .before .before .before .before .before .credit .ensures)
+    (ledger-kept (a .ledger) (g .e) (charges (g .e)) (chargeOf (g .v) (g .e)) (creditOf (g .v) (g .e)) (s .pre .0 .fit .ledger-fit) (ledger-room a (g .e) (g .v) (s .pre .1))) in
     (places-of (k .result) (k .last .1 .0) (k .last .1 .1 .0) (k .last .1 .1 .1 .0) f (search needs) (search needs) (search needs), f)
 
 changed-requires : tie.Need-changed-requires
-changed-requires c κs = 
+changed-requires c κs =
     let s = c .before .before .before .before .before .before .before .before .before .before .before .before .before .before .before .before .before .before .before .before .before .before .before in
     let g = s .args in
     stepping (g .self) (g .days .now) (g .amounts .now) (g .uptos .now) (g .recent .now) (g .e) (g .v) (s .pre .0) (s .pre .1)
@@ -60,7 +60,7 @@ same-length-4 : tie.Need-same-length-4
 same-length-4 c = search needs
 
 returns : tie.Need-returns
-returns c = 
+returns c =
     let s = c .before .before .before .before .before .before .before .before .before .before .before .before .before .before .before .before .before .before .before .before .before .before .before .before .before .before in
     let g = s .args in
     let a = accountOn (g .self) (g .days .now) (g .amounts .now) (g .uptos .now) (g .recent .now) in

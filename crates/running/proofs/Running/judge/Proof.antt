@@ -16,11 +16,10 @@ refusal-requires : tie.Need-refusal-requires
 refusal-requires c κs = search needs
 
 applied-requires : tie.Need-applied-requires
-applied-requires c κs = 
+applied-requires c κs =
     let s = c .before .before .before .before .before .before .before .before .before .before .before .before .before .before .before .before .before in
     let g = s .args in
-    let a = accountOn (g .self) (g .days .now) (g .amounts .now) (g .uptos .now) (g .recent .now) in
-    (
+    let a = accountOn (g .self) (g .days .now) (g .amounts .now) (g .uptos .now) (g .recent .now) in (
       s .pre,
       record {
         fit = s .pre .fit;
@@ -43,7 +42,7 @@ same-length-4 : tie.Need-same-length-4
 same-length-4 c = search needs
 
 returns : tie.Need-returns
-returns c = 
+returns c =
     let s = c .before .before .before .before .before .before .before .before .before .before .before .before .before .before .before .before .before .before .before .before .before .before .before .before .before .before in
     let g = s .args in
     let a = accountOn (g .self) (g .days .now) (g .amounts .now) (g .uptos .now) (g .recent .now) in
@@ -65,7 +64,7 @@ same-length-8 : tie.Need-same-length-8
 same-length-8 c = search needs
 
 returns-2 : tie.Need-returns-2
-returns-2 c = 
+returns-2 c =
     let s = c .before .before .before .before .before .before .before .before .before .before .before .before .before in
     let g = s .args in
     let a = accountOn (g .self) (g .days .now) (g .amounts .now) (g .uptos .now) (g .recent .now) in
@@ -74,7 +73,7 @@ returns-2 c =
     judged-no (n .result) _ (g .self) _ _ _ _ (judged-refused a (g .e) (v .result) (n .result) (sym (c .before .before .before .before .before .before .before .before .first-row .ensures) ∙ c .before .before .before .before .before .before .before .if1 .taken) (v .ensures) (n .ensures) (c .if2 .left))
 
 returns-3 : tie.Need-returns-3
-returns-3 c = 
+returns-3 c =
     let s = c .before .before .before .before .before .before in
     let g = s .args in
     let a = accountOn (g .self) (g .days .now) (g .amounts .now) (g .uptos .now) (g .recent .now) in
