@@ -1,28 +1,30 @@
 -- An account in lent memory: which account it is.
-use Prim.Native.Nat.{ℕ, zero, suc, _+_, _≤_}
+use Prim.Native.Nat.{ℕ, zero, suc, _+_, _-_, _≤_}
 use mathlib.Core.Path.{_≡_}
-use mathlib.Core.Bool.{cond}
+use mathlib.Core.Bool.{Bool, false, cond, _||_}
 use mathlib.Core.List.{List, [], _∷_, _++_}
 use lib.ListN.{length, getD, set}
 use Rattle.rules.specs.declared.Event.{Event}
 use Rattle.rules.specs.declared.Item.{Item}
 use Rattle.rules.specs.declared.View.{View}
-use Rattle.rules.specs.Kinds.{returnedPayment}
+use Rattle.rules.specs.Kinds.{returnedPayment, finalNotice}
 use Rattle.rules.specs.History.{is}
 use Rattle.rules.specs.Range.{WellFormed}
 use Rattle.rules.specs.Table.{limit}
+use Rattle.table.specs.Debt.{looksAtDebt}
 use Rattle.ledger.specs.OpenItems.{isOpen}
 use Rattle.ledger.specs.declared.Ledger.{Ledger}
 use Rattle.ledger.specs.Ledger.{ledgerWith}
 use Rattle.receipts.specs.declared.Receipts.{Receipts}
-use Rattle.receipts.specs.Receipts.{receiptsAfter, ReceiptsFit}
-use Rattle.deposit.specs.Deposit.{noDeposit, depositAfter, DepositFit}
+use Rattle.receipts.specs.Receipts.{receiptsAfter, paymentBy, ReceiptsFit}
+use Rattle.deposit.specs.Deposit.{noDeposit, depositAfter, earnedBy, DepositFit}
+use Rattle.collection.specs.declared.Collection.{Collection}
 use Rattle.collection.specs.Collection.{noCollection, collectionAfter}
 use Rattle.medical.specs.Medical.{noMedical, medicalAfter}
 use Rattle.arrangement.specs.Arrangement.{noArrangement, arrangementAfter, ArrangementFit}
 use Rattle.account.specs.declared.Account.{Account}
 use Rattle.account.specs.declared.Posted.{Posted}
-use Rattle.account.specs.Account.{AccountFit}
+use Rattle.account.specs.Account.{AccountFit, view, Passing}
 use Rattle.account.specs.Claim.{accepts}
 use Rattle.running.specs.declared.Sums.{Sums}
 use Rattle.running.specs.declared.Running.{Running}
@@ -111,3 +113,60 @@ pub record Changed (r : Running) (ps : List ℕ) (e : Event) (v : View) (s : Sum
 pub record JudgedOn (p : Posted) (r : Judged) (ds ms us ps : List ℕ) : Type 0 where
   pub account-is : accountOn (r .account) ds ms us ps ≡ p .account
   pub refused-is : r .refused ≡ cond (accepts (p .answer)) 0 1
+
+-- ---- only what an event's kind looks at
+-- a View without what only kinds 11 to 15 look at
+abbrev pub brief : View → View
+brief v =
+    record {
+      service = v .service;
+      charged = v .charged;
+      credited = v .credited;
+      credits = v .credits;
+      payment = v .payment;
+      held = v .held;
+      required = v .required;
+      earned = v .earned;
+      arrears = 0;
+      «in_force» = false;
+      «notice_live» = false;
+      «notice_in_days» = false;
+      called = false;
+      certified = false;
+      approved = false;
+      «open_count» = v .«open_count»;
+    }
+
+abbrev pub seenOf : View → Event → View
+seenOf v e = cond (looksAtDebt e) v (brief v)
+
+-- the brief View of an account in lent memory; items do not matter
+abbrev pub briefOf : Running → List ℕ → Event → View
+briefOf r ps e =
+    record {
+      service = r .collection .status .service;
+      charged = r .sums .charged;
+      credited = r .sums .credited;
+      credits = r .sums .credited - r .sums .«paid_out»;
+      payment = paymentBy (receiptsOn (r .receipts) ps) (e .amount);
+      held = r .deposit .held;
+      required = r .deposit .required;
+      earned = earnedBy (r .deposit) (e .day);
+      arrears = 0;
+      «in_force» = false;
+      «notice_live» = false;
+      «notice_in_days» = false;
+      called = false;
+      certified = false;
+      approved = false;
+      «open_count» = r .sums .count;
+    }
+
+-- there is a notice after e that low arrears would make lapse
+abbrev pub watched : Collection → Event → Bool
+watched c e = is finalNotice e || c .notice .live
+
+-- e passes, and v is what its kind looks at
+pub record SeenPassing (a : Account) (e : Event) (v : View) : Type 0 where
+  pub passing : Passing a e (view a e)
+  pub looked : v ≡ seenOf (view a e) e

@@ -9,15 +9,17 @@ use deposit::Deposit;
 use medical::Medical;
 use rules::Event;
 use rules::View;
+use rules::kinds::FINAL_NOTICE;
 use rules::kinds::PAYMENT;
 use rules::kinds::RETURNED_PAYMENT;
 ghost use mathlib.Core.Path.{_≡_};
 ghost use Prim.Native.Nat.{_≤_};
 ghost use lib.ListN.{length};
+ghost use Rattle.deposit.specs.Deposit.{DepositFit};
 ghost use Rattle.receipts.specs.Receipts.{receiptsAfter, paymentBy};
-ghost use Rattle.account.specs.Account.{view as viewBy, applied as appliedBy, Passing};
+ghost use Rattle.account.specs.Account.{view as viewBy, applied as appliedBy};
 ghost use Rattle.account.specs.Post.{judged};
-ghost use Rattle.running.specs.Running.{receiptsOn, accountOn, noRunning, Held, Stepping, Changed, JudgedOn};
+ghost use Rattle.running.specs.Running.{receiptsOn, accountOn, noRunning, Held, Stepping, Changed, JudgedOn, briefOf, seenOf, watched, SeenPassing};
 
 // What was charged, credited and paid out, and how many items are open: the ledger without its items.
 pub struct Sums {
@@ -131,6 +133,46 @@ impl Running {
         }
     }
 
+    // The same without what only kinds 11 to 15 look at.
+    fn brief(self, recent: &[u64], e: Event) -> View
+        requires { ⌜ (length (now recent) ≡ 32) × DepositFit (self .deposit) ⌝ }
+        ensures { λ r. ⌜ r ≡ briefOf self (now (recent .entry)) e ⌝ }
+    {
+        let s = self.sums;
+        let d = self.deposit;
+        let c = self.collection;
+        let service = c.service();
+        View {
+            service,
+            charged: s.charged,
+            credited: s.credited,
+            credits: s.credits(),
+            payment: payment(recent, self.receipts, e.amount),
+            held: d.held,
+            required: d.required,
+            earned: d.earned(e.day),
+            arrears: 0,
+            in_force: false,
+            notice_live: false,
+            notice_in_days: false,
+            called: false,
+            certified: false,
+            approved: false,
+            open_count: s.count as u64,
+        }
+    }
+
+    // What the table looks at, as far as the event's kind looks at it.
+    fn seen(self, days: &[u32], amounts: &[u64], uptos: &[u64], recent: &[u64], e: Event) -> View
+        requires { ⌜ Held self (now days) (now amounts) (now uptos) (now recent) ⌝ }
+        ensures { λ r. ⌜ r ≡ seenOf (viewBy (accountOn self (now (days .entry)) (now (amounts .entry)) (now (uptos .entry)) (now (recent .entry))) e) e ⌝ }
+    {
+        if table::looks_at_debt(e) {
+            return self.view(days, amounts, uptos, recent, e);
+        }
+        self.brief(recent, e)
+    }
+
     // The parts after an event that passes; `sums` is the ledger after it, and `due` its arrears on the event's day.
     fn changed(self, recent: &mut [u64], e: Event, v: View, sums: Sums, due: u64) -> Running
         requires { ⌜ Stepping self (now recent) e v ⌝ }
@@ -156,6 +198,15 @@ impl Running {
         }
     }
 
+    // Whether there is a notice after the event that low arrears would make lapse.
+    fn watches(self, e: Event) -> bool
+        ensures { λ r. ⌜ r ≡ watched (self .collection) e ⌝ }
+    {
+        let c = self.collection;
+        let n = c.notice;
+        (e.kind == FINAL_NOTICE) | n.live
+    }
+
     // The account after an event that passes.
     fn applied(
         self,
@@ -167,15 +218,16 @@ impl Running {
         v: View,
     ) -> Running
         requires { ⌜ Held self (now days) (now amounts) (now uptos) (now recent) ⌝ }
-        requires { ⌜ Passing (accountOn self (now days) (now amounts) (now uptos) (now recent)) e v ⌝ }
-        ensures { λ r. ⌜ accountOn r (now (days .exit)) (now (amounts .exit)) (now (uptos .exit)) (now (recent .exit)) ≡ appliedBy (accountOn self (now (days .entry)) (now (amounts .entry)) (now (uptos .entry)) (now (recent .entry))) e v ⌝ }
+        requires { ⌜ SeenPassing (accountOn self (now days) (now amounts) (now uptos) (now recent)) e v ⌝ }
+        ensures { λ r. ⌜ accountOn r (now (days .exit)) (now (amounts .exit)) (now (uptos .exit)) (now (recent .exit)) ≡ appliedBy (accountOn self (now (days .entry)) (now (amounts .entry)) (now (uptos .entry)) (now (recent .entry))) e (viewBy (accountOn self (now (days .entry)) (now (amounts .entry)) (now (uptos .entry)) (now (recent .entry))) e) ⌝ }
     {
         let adds = table::amounts::charges(e);
         let charge = table::amounts::charge(v, e);
         let credit = table::amounts::credit(v, e);
         let before = self.sums;
         let sums = before.after(days, amounts, uptos, e, adds, charge, credit);
-        let due = sums.arrears(days, amounts, uptos, e.day);
+        let watched = self.watches(e);
+        let due = sums.watched_arrears(days, amounts, uptos, e.day, watched);
         self.changed(recent, e, v, sums, due)
     }
 
@@ -193,7 +245,7 @@ impl Running {
     {
         let first = table::range::first_row(self.last, e);
         if first == 0 {
-            let v = self.view(days, amounts, uptos, recent, e);
+            let v = self.seen(days, amounts, uptos, recent, e);
             let n = table::refusal(v, e);
             if n == 0 {
                 let next = self.applied(days, amounts, uptos, recent, e, v);

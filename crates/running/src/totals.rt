@@ -6,6 +6,7 @@ use rules::Event;
 use rules::Item;
 use rules::kinds::PAYOUT;
 ghost use mathlib.Core.Path.{_≡_};
+ghost use mathlib.Core.Bool.{cond};
 ghost use mathlib.Core.List.{[]};
 ghost use Rattle.ledger.specs.Ledger.{creditsBy, arrearsBy, ledgerAfter, LedgerFit, LedgerRoom};
 ghost use Rattle.running.specs.Running.{ledgerOn, Places};
@@ -25,6 +26,25 @@ impl Sums {
         ensures { λ r. ⌜ r ≡ arrearsBy (ledgerOn self (now (days .entry)) (now (amounts .entry)) (now (uptos .entry))) t ⌝ }
     {
         arrears(days, amounts, uptos, self.count, self.credits(), t)
+    }
+
+    // The arrears on day t where they are watched, else 0.
+    pub fn watched_arrears(
+        self,
+        days: &[u32],
+        amounts: &[u64],
+        uptos: &[u64],
+        t: u32,
+        watched: bool,
+    ) -> u64
+        requires { ⌜ Places (self .count) (now days) (now amounts) (now uptos) ⌝ }
+        requires { ⌜ LedgerFit (ledgerOn self (now days) (now amounts) (now uptos)) ⌝ }
+        ensures { λ r. ⌜ r ≡ cond watched (arrearsBy (ledgerOn self (now (days .entry)) (now (amounts .entry)) (now (uptos .entry))) t) 0 ⌝ }
+    {
+        if watched {
+            return self.arrears(days, amounts, uptos, t);
+        }
+        0
     }
 
     // What it becomes when the event is accepted, which charges and credits so much.

@@ -8,9 +8,12 @@ mod rows;
 
 use rules::Event;
 use rules::View;
+use rules::kinds::ARRANGEMENT;
+use rules::kinds::RECONNECTION;
 ghost use mathlib.Core.Path.{_≡_};
 ghost use lib.ListN.{take, drop};
 ghost use Rattle.rules.specs.Table.{table, firstOf, refusalBy};
+ghost use Rattle.table.specs.Debt.{looksAtDebt};
 
 // 4 to 8: the service, receipts, credit and deposit. `rest` where none of them refuses.
 fn standing_rows(v: View, e: Event, rest: u8) -> u8
@@ -52,12 +55,22 @@ fn bounding_rows(v: View, e: Event, rest: u8) -> u8
     basics::select8(rows::row16(v, e), 16, n17)
 }
 
-// The number of the first row from 4 on that refuses the event, 0 for none.
+// Whether the event's kind looks at the debt: at arrears, arrangements in force, notices, calls, certificates or approvals.
+pub fn looks_at_debt(e: Event) -> bool
+    ensures { λ r. ⌜ r ≡ looksAtDebt e ⌝ }
+{
+    (ARRANGEMENT <= e.kind) & (e.kind <= RECONNECTION)
+}
+
+// The number of the first row from 4 on that refuses the event, 0 for none. Rows 9 to 15 are asked where they concern it.
 pub fn refusal(v: View, e: Event) -> u8
     ensures { λ r. ⌜ r ≡ refusalBy v e ⌝ }
 {
     let bounding = bounding_rows(v, e, 0);
-    let disconnection = disconnection_rows(v, e, bounding);
-    let arrears = arrears_rows(v, e, disconnection);
-    standing_rows(v, e, arrears)
+    if looks_at_debt(e) {
+        let disconnection = disconnection_rows(v, e, bounding);
+        let arrears = arrears_rows(v, e, disconnection);
+        return standing_rows(v, e, arrears);
+    }
+    standing_rows(v, e, bounding)
 }
