@@ -1,6 +1,8 @@
 // An account of a book, posted in place: its records are found one after another, and nothing is copied out of the book.
 use account::Account;
 use layout::Outcome;
+use layout::event_at;
+use little::get;
 use running::Running;
 ghost use mathlib.Core.Path.{_≡_};
 ghost use mathlib.Core.List.{[]};
@@ -31,12 +33,14 @@ fn run_account(
     ensures { λ r. ⌜ RanOver r (accountOf (now (b .entry)) i) ⌝ }
 {
     let s = book::account(b, i);
+    let start = 8 + 8 * (get(b, 0, 4) as usize);
     let mut k = s.first;
     let mut left = s.count;
     let mut account = Running::fresh();
     let mut refused: u64 = 0;
     while 0 < left {
-        let p = account.judge(days, amounts, uptos, recent, book::record(b, k));
+        let e = event_at(b, start + 16 * k);
+        let p = account.judge(days, amounts, uptos, recent, e);
         refused += p.refused;
         let next = p.account;
         account = next;

@@ -76,10 +76,3 @@ top-mono zero zero h = omega arith
 top-mono zero (suc j) h = omega (arith, top-mono zero j (omega arith))
 top-mono (suc i) zero h = absurd (not-suc-le-zero h)
 top-mono (suc i) (suc j) h = omega (arith, top-mono i j (le-of-suc-le-suc h))
-
--- the same for a loop that goes down from the end e
-pub num-more : (e at : ℕ) (b : List ℕ) → 0 < at → at ≤ e → at ≤ length b → num (e - (at - 1)) (at - 1) b ≡ getD b (at - 1) 0 + 256 * num (e - at) at b
-num-more e at b z h l =
-    let k : e - (at - 1) ≡ suc (e - at) = omega arith in
-    let m : at - 1 + 1 ≡ at = omega arith in
-    rw k (num-step (e - at) (at - 1) b (omega arith) ∙ ap (λ i. getD b (at - 1) 0 + 256 * num (e - at) i b) m)

@@ -17,10 +17,10 @@ pub fn get(b: &[u8], p: usize, w: usize) -> u64
     ensures { λ r. ⌜ (r ≡ num w p (now (b .entry))) × (r < top w) ⌝ }
 {
     let mut acc: u64 = 0;
-    let mut at = p + w;
-    while p < at {
-        at -= 1;
-        acc = wide(b[at]) + 256 * acc;
+    let mut left = w;
+    while 0 < left {
+        left -= 1;
+        acc = wide(b[p + left]) + 256 * acc;
     }
     acc
 }
