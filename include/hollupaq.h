@@ -4,7 +4,12 @@
  * The functions are those of the proved core in libhollupaq.a. They keep no
  * state and no pointer, allocate nothing, and take any bytes: a book that is
  * not in order is refused by a number. They may run in several threads at
- * once, as long as no two of them write to the same memory.
+ * once, as long as no two of them write to the same memory, and none writes to
+ * a book that another reads.
+ *
+ * The book and the memory for output of one call must not overlap, nor two
+ * pieces of memory for output. No pointer may be null, not even where its
+ * length is 0: pass a valid one then too.
  */
 #ifndef HOLLUPAQ_H
 #define HOLLUPAQ_H

@@ -2,7 +2,7 @@
 use std::time::{Duration, Instant};
 
 /// Many short samples: where the machine has other work, most of them still run without a break.
-const SAMPLES: usize = 151;
+pub const SAMPLES: usize = 151;
 const SAMPLE: Duration = Duration::from_micros(800);
 
 pub type Task<'a> = Box<dyn FnMut() + 'a>;
@@ -20,11 +20,11 @@ fn turns(task: &mut Task) -> u32 {
     }
 }
 
-/// The median time of each task, in seconds.
-pub fn medians(tasks: &mut [Task]) -> Vec<f64> {
+/// The median time of each task over so many samples, in seconds.
+pub fn medians(tasks: &mut [Task], samples: usize) -> Vec<f64> {
     let turns: Vec<u32> = tasks.iter_mut().map(turns).collect();
     let mut times = vec![Vec::new(); tasks.len()];
-    for _ in 0..SAMPLES {
+    for _ in 0..samples {
         for (i, task) in tasks.iter_mut().enumerate() {
             let start = Instant::now();
             (0..turns[i]).for_each(|_| task());

@@ -9,15 +9,37 @@
 #include "hollupaq.h"
 
 #include <stdio.h>
+#include <stdlib.h>
 
-static uint8_t book[65537];
 static uint8_t text[HOLLUPAQ_REPORT_ROOM(HOLLUPAQ_MOST_ACCOUNTS)];
+
+/* The whole file in memory of its own, or null where there is too little. */
+static uint8_t *read_all(FILE *file, size_t *length)
+{
+    size_t room = 65536;
+    uint8_t *bytes = malloc(room);
+
+    *length = 0;
+    while (bytes != NULL) {
+        uint8_t *grown = NULL;
+
+        *length += fread(bytes + *length, 1, room - *length, file);
+        if (*length < room)
+            return bytes;
+        if (room <= SIZE_MAX / 2)
+            grown = realloc(bytes, room *= 2);
+        if (grown == NULL)
+            free(bytes);
+        bytes = grown;
+    }
+    return NULL;
+}
 
 int main(int argc, char **argv)
 {
     FILE *file;
-    size_t length;
-    uint64_t written;
+    uint8_t *book;
+    size_t length, written;
 
     if (argc != 2) {
         fprintf(stderr, "standing-c BOOK\n");
@@ -28,12 +50,17 @@ int main(int argc, char **argv)
         perror(argv[1]);
         return 1;
     }
-    length = fread(book, 1, sizeof book, file);
-    if (ferror(file) || length == sizeof book) {
-        fprintf(stderr, "%s: can't be read, or is over 65,536 bytes\n", argv[1]);
+    book = read_all(file, &length);
+    if (book == NULL || ferror(file)) {
+        perror(argv[1]);
         return 1;
     }
     fclose(file);
-    written = hollupaq_report(book, length, text, sizeof text);
-    return fwrite(text, 1, (size_t)written, stdout) == written ? 0 : 1;
+    written = (size_t)hollupaq_report(book, length, text, sizeof text);
+    free(book);
+    if (fwrite(text, 1, written, stdout) != written || fflush(stdout) != 0) {
+        perror("standing-c");
+        return 1;
+    }
+    return 0;
 }

@@ -2,7 +2,7 @@
 use crate::{library, peer, show};
 use std::io::{self, Write};
 use std::path::Path;
-use std::process::{Child, ChildStdin, Command, Stdio};
+use std::process::{ChildStdin, Command, Output, Stdio};
 use std::thread;
 use std::time::Duration;
 
@@ -17,27 +17,23 @@ pub enum Feed {
     Pieces(usize),
 }
 
-/// What the program prints for a file.
-pub fn run(program: &Path, file: &[u8], feed: Feed) -> io::Result<Vec<u8>> {
+/// What the program prints for a file, and how it ends.
+pub fn run(program: &Path, file: &[u8], feed: Feed) -> io::Result<Output> {
     let mut child = Command::new(program)
         .stdin(Stdio::piped())
         .stdout(Stdio::piped())
         .spawn()?;
     let input = child.stdin.take();
-    // A program that has seen enough may stop reading: what it prints is what counts.
-    let output = thread::scope(|scope| {
+    // A program that has seen enough may stop reading: what it prints and its status are what counts.
+    thread::scope(|scope| {
         scope.spawn(move || input.map(|input| write(input, file, feed)));
-        wait(child)
-    })?;
-    Ok(output)
+        child.wait_with_output()
+    })
 }
 
-fn wait(child: Child) -> io::Result<Vec<u8>> {
-    let output = child.wait_with_output()?;
-    match output.status.code() {
-        Some(_) => Ok(output.stdout),
-        None => Err(io::Error::other("the program was stopped by a signal")),
-    }
+/// Whether the program printed what is expected and ended with 0.
+fn agrees(output: &Output, expected: &[u8]) -> bool {
+    output.status.success() && output.stdout == expected
 }
 
 fn write(mut input: ChildStdin, file: &[u8], feed: Feed) -> io::Result<()> {
@@ -54,18 +50,19 @@ fn write(mut input: ChildStdin, file: &[u8], feed: Feed) -> io::Result<()> {
     Ok(())
 }
 
-/// A file for which the program prints something else than the peer, shrunk; nothing where they agree.
+/// A file for which the program prints something else than the peer or doesn't end with 0, shrunk; nothing where they
+/// agree.
 pub fn compare(program: &Path, file: &[u8], feed: Feed) -> Option<String> {
-    let found = match run(program, file, feed) {
-        Ok(found) => found,
+    let output = match run(program, file, feed) {
+        Ok(output) => output,
         Err(error) => return Some(format!("  {} does not run: {error}", program.display())),
     };
     let expected = peer::standing(file);
-    if found == expected {
+    if agrees(&output, &expected) {
         return None;
     }
     // The program prints what the library writes: where that differs too, it is shrunk without a process for each try.
-    let by_library = (file.len() <= peer::book::LONGEST_FILE)
+    let by_library = (output.status.success() && file.len() <= peer::book::LONGEST_FILE)
         .then(|| library::compare_report(file, &expected))
         .flatten();
     by_library.or_else(|| Some(difference(program, file, feed)))
@@ -73,10 +70,35 @@ pub fn compare(program: &Path, file: &[u8], feed: Feed) -> Option<String> {
 
 /// A difference of the program alone.
 fn difference(program: &Path, file: &[u8], feed: Feed) -> String {
-    let differs =
-        |file: &[u8]| run(program, file, feed).is_ok_and(|found| found != peer::standing(file));
+    let differs = |file: &[u8]| {
+        run(program, file, feed).is_ok_and(|output| !agrees(&output, &peer::standing(file)))
+    };
     let (small, shown) = library::shrink_book(file, TRY, &differs);
-    let found = run(program, &small, feed).unwrap_or_default();
+    let (found, end) = match run(program, &small, feed) {
+        Ok(output) => (output.stdout, output.status.to_string()),
+        Err(error) => (Vec::new(), error.to_string()),
+    };
     let texts = show::texts(&peer::standing(&small), &found);
-    format!("{shown}{texts}  {} bytes, {feed:?}", small.len())
+    format!("{shown}{texts}  {} bytes, {feed:?}, {end}", small.len())
+}
+
+#[cfg(test)]
+mod tests {
+    use super::*;
+    use std::os::unix::process::ExitStatusExt;
+    use std::process::ExitStatus;
+
+    #[test]
+    fn the_text_counts_only_with_status_0() {
+        let output = |status| Output {
+            status: ExitStatus::from_raw(status),
+            stdout: b"text".to_vec(),
+            stderr: Vec::new(),
+        };
+        assert!(agrees(&output(0), b"text"));
+        assert!(!agrees(&output(0), b"other"));
+        // Exit status 1, and a signal.
+        assert!(!agrees(&output(256), b"text"));
+        assert!(!agrees(&output(9), b"text"));
+    }
 }

@@ -18,7 +18,7 @@ pub fn read(name: &str) -> Result<Vec<u8>, String> {
 /// Writes the bytes, or says in words why it can't.
 pub fn write(name: &str, bytes: &[u8]) -> Result<(), String> {
     let written = match name {
-        "-" => io::stdout().write_all(bytes),
+        "-" => print(bytes),
         _ => File::create(name).and_then(|mut file| file.write_all(bytes)),
     };
     match written {
@@ -26,4 +26,11 @@ pub fn write(name: &str, bytes: &[u8]) -> Result<(), String> {
         Err(e) if e.kind() != io::ErrorKind::BrokenPipe => Err(format!("can't write {name}: {e}")),
         _ => Ok(()),
     }
+}
+
+/// What stays behind in standard output would be lost without a word at the end of the program.
+fn print(bytes: &[u8]) -> io::Result<()> {
+    let mut out = io::stdout().lock();
+    out.write_all(bytes)?;
+    out.flush()
 }

@@ -1,4 +1,5 @@
 //! The tools as they are called: what goes in and out, the exit status, and words for what is wrong.
+use std::fs::File;
 use std::io::Write;
 use std::process::{Command, Output, Stdio};
 
@@ -6,10 +7,14 @@ const TEXT: &[u8] =
     b"account # 0\n  100 bill 10000\n  130 bill 5000\n  131 payment 4000\n  131 cut\n";
 
 fn run(program: &str, arguments: &[&str], input: &[u8]) -> Output {
+    run_into(Stdio::piped(), program, arguments, input)
+}
+
+fn run_into(stdout: Stdio, program: &str, arguments: &[&str], input: &[u8]) -> Output {
     let mut child = Command::new(program)
         .args(arguments)
         .stdin(Stdio::piped())
-        .stdout(Stdio::piped())
+        .stdout(stdout)
         .stderr(Stdio::piped())
         .spawn()
         .unwrap();
@@ -95,6 +100,23 @@ fn what_can_not_be_shown_is_told_in_words() {
     assert!(told.starts_with("why: book refused 20: "));
     let told = complaint(&why(&["no-such-file"], b""), 1);
     assert!(told.starts_with("why: can't read no-such-file: "));
+}
+
+#[test]
+#[cfg(target_os = "linux")]
+fn what_can_not_be_written_is_told_in_words() {
+    let full = || Stdio::from(File::options().write(true).open("/dev/full").unwrap());
+    let packed = bookfile(&["pack"], TEXT).stdout;
+    let into_full = |program, arguments: &[&str], input: &[u8]| {
+        complaint(&run_into(full(), program, arguments, input), 1)
+    };
+    let program = env!("CARGO_BIN_EXE_bookfile");
+    for (way, input) in [("pack", TEXT), ("unpack", &packed)] {
+        let told = into_full(program, &[way], input);
+        assert!(told.starts_with("bookfile: can't write -: "), "{told}");
+    }
+    let told = into_full(env!("CARGO_BIN_EXE_why"), &[], &packed);
+    assert!(told.starts_with("why: can't write -: "), "{told}");
 }
 
 #[test]

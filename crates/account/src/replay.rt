@@ -9,7 +9,7 @@ ghost use Rattle.account.specs.Claim.{accepts};
 ghost use Rattle.account.specs.Replay.{even, lentEvents, Shown};
 
 // 1 for a refusal.
-pub fn refusals(a: Answer) -> u64
+fn refusals(a: Answer) -> u64
     ensures { λ r. ⌜ r ≡ cond (accepts a) 0 1 ⌝ }
 {
     match a {

@@ -4,24 +4,36 @@ use mathlib.Core.Path.{_≡_, refl, sym, ap, _∙_}
 use mathlib.Core.Bool.{true, cond}
 use mathlib.Core.List.{List, [], _∷_, _++_}
 use native.Mathlib.Omega.{arith}
+use borrow.Author.Tests.{ltb-true, lt-ltb}
+use lib.Dec.{ltb}
 use lib.ListN.{length, take, drop, replicate}
+use Rattle.basics.specs.Lists.{every}
+use Rattle.basics.proofs.Cases.{on}
 use Rattle.rules.specs.declared.Event.{Event}
+use Rattle.rules.specs.declared.Item.{Item}
+use Rattle.rules.specs.Money.{credits, items, unpaid, keep}
+use Rattle.rules.specs.Accepted.{accepted}
+use Rattle.rules.proofs.Lawful.{accepted-lawful}
+use Rattle.ledger.specs.OpenItems.{isOpen, listed}
+use Rattle.ledger.specs.Ledger.{creditsBy}
 use Rattle.layout.specs.declared.Span.{Span}
 use Rattle.layout.specs.Book.{records, bookRefusal, flat, decode}
 use Rattle.layout.specs.Finding.{recordOf, accountOf, IsAccount}
 use Rattle.layout.proofs.Found.{walk-step}
 use Rattle.account.specs.declared.Account.{Account}
 use Rattle.account.specs.declared.Posted.{Posted}
-use Rattle.account.specs.Account.{fresh, accountOk}
+use Rattle.account.specs.Account.{fresh, accountOk, accountOf as partsOf}
 use Rattle.account.specs.Post.{judged, posted, run, answers}
 use Rattle.account.specs.Claim.{accepts, refusedIn}
+use Rattle.account.proofs.Laws.{laws}
+use Rattle.account.proofs.Compose.{run-same, fresh-is}
 use Rattle.account.proofs.Demand.{demand-3}
 use Rattle.account.proofs.Steps.{account-fit, posted-yes}
 use Rattle.account.proofs.Walk.{run-more, one-at-most}
 use Rattle.running.specs.declared.Running.{Running}
 use Rattle.running.specs.declared.Judged.{Judged}
-use Rattle.running.specs.Running.{accountOn, noRunning, Held, JudgedOn}
-use Rattle.running.proofs.Moves.{length-items}
+use Rattle.running.specs.Running.{accountOn, noRunning, AllOpen, Held, JudgedOn}
+use Rattle.running.proofs.Moves.{length-items, listed-on}
 use Rattle.running.proofs.Judging.{held-of}
 use Rattle.bookpost.specs.Ran.{RanOver}
 
@@ -76,6 +88,24 @@ module _ (b : List ℕ) (i k left : ℕ) (a : Account) (r : ℕ) (e : Event) (p 
       }
 
 -- ---- in lent memory
+-- what is open is not paid
+above : (p : ℕ) (x : Item) → ltb 0 (unpaid p x) ≡ true → isOpen p x ≡ true
+above p x e = lt-ltb p (x .upto) (omega (arith, ltb-true 0 (unpaid p x) e))
+
+every-open : (p : ℕ) (xs : List Item) → every (isOpen p) (keep (λ x. ltb 0 (unpaid p x)) xs) ≡ true
+every-open p [] = refl
+every-open p (x ∷ xs) =
+    on (ltb 0 (unpaid p x))
+    (λ q. rw (q, above p x q) (every-open p xs))
+    (λ q. rw q (every-open p xs))
+
+run-open : (es : List Event) → every (isOpen (creditsBy (run fresh es .ledger))) (listed (run fresh es .ledger .items)) ≡ true
+run-open es =
+    let h = accepted es in
+    let k = laws h (accepted-lawful es) in
+    let r : run fresh es ≡ partsOf h = rw (fresh-is, run-same [] es tt) in
+    rw (r, k .on-ledger .credits-is, k .on-ledger .open-are) (every-open (credits h) (items h))
+
 -- the account is that of the records before k, and the memory has the places that it wants
 pub record Running-on (b : List ℕ) (i k left : ℕ) (h : Running) (ds ms us ps : List ℕ) (r : ℕ) : Type 0 where
   pub turning : Turning b i k left (accountOn h ds ms us ps) r
@@ -96,8 +126,16 @@ module _ (b : List ℕ) (i k left : ℕ) (h : Running) (ds ms us ps : List ℕ) 
   passes : accountOk (accountOn h ds ms us ps) ≡ true
   passes = rw (t .reached) (demand-3 (t .past) .passes)
 
+  all-open : AllOpen (h .sums) ds ms us
+  all-open =
+      let a = accountOn h ds ms us ps in
+      let f = account-fit a passes .ledger-fit in
+      let n : h .sums .count ≤ 64 = omega (arith, f .items-fit .count-le, length-items (h .sums .count) ds ms us) in
+      sym (ap (every (isOpen (creditsBy (a .ledger)))) (listed-on (h .sums .count) ds ms us n))
+      ∙ (ap (λ x. every (isOpen (creditsBy (x .ledger))) (listed (x .ledger .items))) (t .reached) ∙ run-open (t .past))
+
   pub held : Held h ds ms us ps
-  held = held-of h ds ms us ps (account-fit (accountOn h ds ms us ps) passes) (t .days) (t .amounts) (t .uptos) (t .payments)
+  held = held-of h ds ms us ps (account-fit (accountOn h ds ms us ps) passes) all-open (t .days) (t .amounts) (t .uptos) (t .payments)
 
   pub turn-on : (e : Event) (p : Judged) (ds2 ms2 us2 ps2 : List ℕ) → bookRefusal b ≡ 0 → 0 < left → e ≡ recordOf b k
       → JudgedOn (judged (accountOn h ds ms us ps) e) p ds2 ms2 us2 ps2 → length ds2 ≡ length ds → length ms2 ≡ length ms → length us2 ≡ length us → length ps2 ≡ length ps

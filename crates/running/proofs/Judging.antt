@@ -26,7 +26,7 @@ use Rattle.account.proofs.Steps.{passing-room}
 use Rattle.running.specs.declared.Sums.{Sums}
 use Rattle.running.specs.declared.Running.{Running}
 use Rattle.running.specs.declared.Judged.{Judged}
-use Rattle.running.specs.Running.{ledgerOn, accountOn, Places, Held, Stepping, Changed, JudgedOn, brief, briefOf, seenOf, watched, SeenPassing}
+use Rattle.running.specs.Running.{ledgerOn, accountOn, AllOpen, Places, Held, Stepping, Changed, JudgedOn, brief, briefOf, seenOf, watched, SeenPassing}
 use Rattle.running.proofs.Moves.{length-items}
 
 -- the places taken are as many as fit
@@ -34,9 +34,9 @@ pub places-of : (s : Sums) (ds ms us : List ℕ) → LedgerFit (ledgerOn s ds ms
 places-of s ds ms us f a b c =
     record { taken = omega (arith, f .items-fit .count-le, length-items (s .count) ds ms us); days = a; amounts = b; uptos = c }
 
-pub held-of : (r : Running) (ds ms us ps : List ℕ) → AccountFit (accountOn r ds ms us ps) → length ds ≡ 64 → length ms ≡ 64 → length us ≡ 64 → length ps ≡ 32
+pub held-of : (r : Running) (ds ms us ps : List ℕ) → AccountFit (accountOn r ds ms us ps) → AllOpen (r .sums) ds ms us → length ds ≡ 64 → length ms ≡ 64 → length us ≡ 64 → length ps ≡ 32
     → Held r ds ms us ps
-held-of r ds ms us ps f a b c d = record { places = places-of (r .sums) ds ms us (f .ledger-fit) a b c; payments = d; fit = f }
+held-of r ds ms us ps f o a b c d = record { places = places-of (r .sums) ds ms us (f .ledger-fit) a b c; payments = d; fit = f; all-open = o }
 
 -- ---- only what the event's kind looks at
 pub brief-is : (r : Running) (ds ms us ps : List ℕ) (e : Event) → briefOf r ps e ≡ brief (view (accountOn r ds ms us ps) e)

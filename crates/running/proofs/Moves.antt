@@ -1,14 +1,15 @@
 -- Items in lent places: reading them, and moving those that stay open to the front.
-use Prim.Native.Nat.{ℕ, zero, suc, _+_, _*_, _≤_, _<_}
+use Prim.Native.Nat.{ℕ, zero, suc, _+_, _*_, _-_, _≤_, _<_}
 use mathlib.Core.Path.{_≡_, refl, sym, ap, _∙_}
-use mathlib.Core.Bool.{Bool, true, false}
+use mathlib.Core.Bool.{Bool, true, false, cond, _||_}
 use mathlib.Core.List.{List, [], _∷_, _++_, append-nil}
 use native.Mathlib.Omega.{arith}
 use native.Mathlib.Numerals.{add-one}
+use lib.Dec.{ltb}
 use lib.ListN.{length, getD, set, length-append, length-set}
 use lib.Seq.{getD-set-same, getD-set-other}
 use Rattle.basics.specs.Lists.{every}
-use Rattle.basics.proofs.Cases.{on, on-eq, and-left}
+use Rattle.basics.proofs.Cases.{on, on-eq, on-lt, and-left, and-right}
 use Rattle.basics.proofs.Lists.{every-append, take-pad}
 use Rattle.rules.specs.declared.Item.{Item}
 use Rattle.rules.specs.Money.{keep, sumOf, due}
@@ -17,7 +18,7 @@ use Rattle.rules.proofs.Items.{keep-append, sum-append, sum-le}
 use Rattle.ledger.specs.OpenItems.{zeroItem, isOpen, openWith, listed, small}
 use Rattle.ledger.specs.Ledger.{LedgerFit}
 use Rattle.ledger.proofs.Steps.{due-le}
-use Rattle.running.specs.Running.{itemAt, itemsOf, ledgerOn, Places, Moved}
+use Rattle.running.specs.Running.{itemAt, itemsOf, ledgerOn, AllOpen, Places, Moved}
 use Rattle.running.specs.declared.Sums.{Sums}
 
 pub length-items : (n : ℕ) (ds ms us : List ℕ) → length (itemsOf n ds ms us) ≡ n
@@ -129,7 +130,30 @@ module _ (ds₀ ms₀ us₀ ds ms us : List ℕ) (p kept i : ℕ) (s : Settling 
       (λ q. rw (m .days, m .amounts, m .uptos, m .kept-now, q) (settle-on h q))
       (λ q. rw (m .days, m .amounts, m .uptos, m .kept-now, q) (settle-off q))
 
+-- where all are open, all are kept
+keep-all : (f : Item → Bool) (xs : List Item) → every f xs ≡ true → keep f xs ≡ xs
+keep-all f [] e = refl
+keep-all f (x ∷ xs) e = rw (and-left (f x) (every f xs) e) (ap {B = List Item} (λ l. x ∷ l) (keep-all f xs (and-right (f x) (every f xs) e)))
+
 -- ---- the ledger of sums and items
+-- neither credited nor paid out: the credits are as before, and no item is paid by them
+pub none-paid : (s : Sums) (ds ms us : List ℕ) (k o : ℕ) (b : Bool) (n : ℕ) → (ltb 0 k || b) ≡ false → o ≡ cond b n 0 → AllOpen s ds ms us
+    → keep (isOpen (s .credited + k - (s .«paid_out» + o))) (itemsOf (s .count) ds ms us) ≡ itemsOf (s .count) ds ms us
+none-paid s ds ms us k o b n f e a =
+    on-lt 0 k
+    (λ q l.
+    let t : (ltb 0 k || b) ≡ true = rw q in
+    absurd (omega (arith, ap {B = ℕ} (λ y. cond y 0 1) (sym t ∙ f))))
+    (λ q l.
+    on b
+    (λ c.
+    let t : (ltb 0 k || b) ≡ true = rw (q, c) in
+    absurd (omega (arith, ap {B = ℕ} (λ y. cond y 0 1) (sym t ∙ f))))
+    (λ c.
+    let z : o ≡ 0 = e ∙ rw c in
+    let p : s .credited + k - (s .«paid_out» + o) ≡ s .credited - s .«paid_out» = omega (arith, z, l) in
+    rw p (keep-all (isOpen (s .credited - s .«paid_out»)) (itemsOf (s .count) ds ms us) a)))
+
 pub listed-on : (n : ℕ) (ds ms us : List ℕ) → n ≤ 64 → listed (openWith (itemsOf n ds ms us)) ≡ itemsOf n ds ms us
 listed-on n ds ms us h = take-pad 64 zeroItem (itemsOf n ds ms us) (rw (length-items n ds ms us) h)
 

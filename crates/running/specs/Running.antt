@@ -1,9 +1,10 @@
 -- An account in lent memory: which account it is.
 use Prim.Native.Nat.{ℕ, zero, suc, _+_, _-_, _≤_}
 use mathlib.Core.Path.{_≡_}
-use mathlib.Core.Bool.{Bool, false, cond, _||_}
+use mathlib.Core.Bool.{Bool, true, false, cond, _||_}
 use mathlib.Core.List.{List, [], _∷_, _++_}
 use lib.ListN.{length, getD, set}
+use Rattle.basics.specs.Lists.{every}
 use Rattle.rules.specs.declared.Event.{Event}
 use Rattle.rules.specs.declared.Item.{Item}
 use Rattle.rules.specs.declared.View.{View}
@@ -59,6 +60,10 @@ pub record Moved (p kept i : ℕ) (ds ms us ds2 ms2 us2 : List ℕ) (r : ℕ) : 
 abbrev pub ledgerOn : Sums → List ℕ → List ℕ → List ℕ → Ledger
 ledgerOn s ds ms us = ledgerWith (s .charged) (s .credited) (s .«paid_out») (itemsOf (s .count) ds ms us)
 
+-- credits have not paid any of the items
+abbrev pub AllOpen : Sums → List ℕ → List ℕ → List ℕ → Type 0
+AllOpen s ds ms us = every (isOpen (s .credited - s .«paid_out»)) (itemsOf (s .count) ds ms us) ≡ true
+
 -- the account: its parts, the items in ds, ms and us, and the newest payments ps
 abbrev pub accountOn : Running → List ℕ → List ℕ → List ℕ → List ℕ → Account
 accountOn r ds ms us ps =
@@ -89,6 +94,7 @@ pub record Held (r : Running) (ds ms us ps : List ℕ) : Type 0 where
   pub places : Places (r .sums .count) ds ms us
   pub payments : length ps ≡ 32
   pub fit : AccountFit (accountOn r ds ms us ps)
+  pub all-open : AllOpen (r .sums) ds ms us
 
 -- what the parts' steps ask, where e passes and v is what the table saw
 pub record Stepping (r : Running) (ps : List ℕ) (e : Event) (v : View) : Type 0 where

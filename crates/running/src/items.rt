@@ -1,7 +1,7 @@
 // Open items in lent places: the days, the amounts and the sums of all charges up to each.
 use rules::Item;
 ghost use mathlib.Core.Path.{_≡_};
-ghost use mathlib.Core.Bool.{true, cond};
+ghost use mathlib.Core.Bool.{true, false, cond};
 ghost use mathlib.Core.List.{[], _∷_, _++_};
 ghost use Prim.Native.Nat.{_≤_, _<_};
 ghost use Rattle.basics.specs.Lists.{every};
@@ -65,6 +65,25 @@ fn settle(days: &mut [u32], amounts: &mut [u64], uptos: &mut [u64], n: usize, p:
     kept
 }
 
+// The same, where anything can have been paid; else all stay, and none has to be looked at.
+fn settle_where(
+    days: &mut [u32],
+    amounts: &mut [u64],
+    uptos: &mut [u64],
+    n: usize,
+    p: u64,
+    settles: bool,
+) -> usize
+    requires { ⌜ Places n (now days) (now amounts) (now uptos) ⌝ }
+    requires { ⌜ (settles ≡ false → keep (isOpen p) (itemsOf n (now days) (now amounts) (now uptos)) ≡ itemsOf n (now days) (now amounts) (now uptos)) ⌝ }
+    ensures { λ r. ⌜ (itemsOf r (now (days .exit)) (now (amounts .exit)) (now (uptos .exit)) ≡ keep (isOpen p) (itemsOf n (now (days .entry)) (now (amounts .entry)) (now (uptos .entry)))) × (r ≤ n) ⌝ }
+{
+    if settles {
+        return settle(days, amounts, uptos, n, p);
+    }
+    n
+}
+
 // Those of the first n items that credits of p leave open, and one more where it is to be added; says how many are then open.
 pub fn enter(
     days: &mut [u32],
@@ -72,14 +91,16 @@ pub fn enter(
     uptos: &mut [u64],
     n: usize,
     p: u64,
+    settles: bool,
     adds: bool,
     x: Item,
 ) -> usize
     requires { ⌜ Places n (now days) (now amounts) (now uptos) ⌝ }
+    requires { ⌜ (settles ≡ false → keep (isOpen p) (itemsOf n (now days) (now amounts) (now uptos)) ≡ itemsOf n (now days) (now amounts) (now uptos)) ⌝ }
     requires { ⌜ (adds ≡ true → n < 64) ⌝ }
     ensures { λ r. ⌜ itemsOf r (now (days .exit)) (now (amounts .exit)) (now (uptos .exit)) ≡ keep (isOpen p) (itemsOf n (now (days .entry)) (now (amounts .entry)) (now (uptos .entry))) ++ cond adds (x ∷ []) [] ⌝ }
 {
-    let kept = settle(days, amounts, uptos, n, p);
+    let kept = settle_where(days, amounts, uptos, n, p, settles);
     if adds {
         days[kept] = x.day;
         amounts[kept] = x.amount;

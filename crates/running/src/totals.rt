@@ -9,7 +9,7 @@ ghost use mathlib.Core.Path.{_≡_};
 ghost use mathlib.Core.Bool.{cond};
 ghost use mathlib.Core.List.{[]};
 ghost use Rattle.ledger.specs.Ledger.{creditsBy, arrearsBy, ledgerAfter, LedgerFit, LedgerRoom};
-ghost use Rattle.running.specs.Running.{ledgerOn, Places};
+ghost use Rattle.running.specs.Running.{ledgerOn, Places, AllOpen};
 
 impl Sums {
     // Payments plus deposits moved, less payouts (document 01: P).
@@ -61,6 +61,7 @@ impl Sums {
         requires { ⌜ Places (self .count) (now days) (now amounts) (now uptos) ⌝ }
         requires { ⌜ LedgerFit (ledgerOn self (now days) (now amounts) (now uptos)) ⌝ }
         requires { ⌜ LedgerRoom (ledgerOn self (now days) (now amounts) (now uptos)) e adds charge credit ⌝ }
+        requires { ⌜ AllOpen self (now days) (now amounts) (now uptos) ⌝ }
         ensures { λ r. ⌜ ledgerOn r (now (days .exit)) (now (amounts .exit)) (now (uptos .exit)) ≡ ledgerAfter (ledgerOn self (now (days .entry)) (now (amounts .entry)) (now (uptos .entry))) e adds charge credit ⌝ }
     {
         let charged = self.charged + charge;
@@ -72,7 +73,17 @@ impl Sums {
             amount: charge,
             upto: charged,
         };
-        let count = enter(days, amounts, uptos, self.count, p, adds & (p < charged), x);
+        let settles = (0 < credit) | (e.kind == PAYOUT);
+        let count = enter(
+            days,
+            amounts,
+            uptos,
+            self.count,
+            p,
+            settles,
+            adds & (p < charged),
+            x,
+        );
         Sums {
             charged,
             credited,

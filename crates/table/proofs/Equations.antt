@@ -1,23 +1,21 @@
 -- What the code computes, as equations with the rules' definitions: sums that stop at the largest number, selects for sums, tables read by number.
 use Prim.Native.Nat.{ℕ, zero, suc, _+_, _-_, _≤_, _<_, min}
-use mathlib.Core.Path.{_≡_, refl, sym, ap, _∙_}
-use mathlib.Core.Bool.{false, cond}
-use mathlib.Core.List.{List, [], _∷_}
+use mathlib.Core.Path.{_≡_, refl, sym, _∙_}
+use mathlib.Core.Bool.{cond}
+use mathlib.Core.List.{_∷_}
 use native.Mathlib.Omega.{arith}
 use lib.Dec.{ltb}
-use lib.ListN.{length, getD, List·getD-eq-default}
-use borrow.Author.Tests.{lt-ltb, le-ltb, lt-leb}
+use lib.ListN.{getD, List·getD-eq-default}
+use borrow.Author.Tests.{lt-ltb, le-ltb}
 use Rattle.basics.specs.Machine.{largest}
-use Rattle.basics.proofs.Cases.{on-eq, on-lt, on-le}
+use Rattle.basics.proofs.Cases.{on-eq, on-lt}
 use Rattle.rules.specs.declared.Event.{Event}
-use Rattle.rules.specs.declared.Fields.{Fields}
 use Rattle.rules.specs.declared.View.{View}
 use Rattle.rules.specs.Kinds.{bill, payment, returnedPayment}
-use Rattle.rules.specs.History.{is, within}
+use Rattle.rules.specs.History.{is}
 use Rattle.rules.specs.Fees.{fees, feeOf, feeNumber}
 use Rattle.rules.specs.Deposit.{moves}
 use Rattle.rules.specs.Money.{creditBy, lateCharge}
-use Rattle.rules.specs.Range.{unknown, fields, fits, inRange}
 use Rattle.rules.specs.Table.{limit, chargeOf}
 
 -- ---- the fee table: its place is its number less 1
@@ -51,23 +49,3 @@ passing a b = same-test (min (a + min b largest) largest) (a + b) (λ l. omega a
 
 pub passing-sum : (a b : ℕ) → ltb limit (min (a + b) largest) ≡ ltb limit (a + b)
 passing-sum a b = same-test (min (a + b) largest) (a + b) (λ l. omega arith) (λ l. omega arith)
-
--- ---- ranges
--- a kind past the table is unknown, and no event fits it
-never : (e : Event) → false ≡ fits unknown e
-unfolding within
-never e = on-le 1 (e .option) (λ q l. rw (q, lt-leb (e .option) 0 l)) (λ q l. rw q)
-
-pub unknown-kind : (e : Event) → 16 < e .kind → false ≡ inRange e
-unfolding inRange
-unknown-kind e l = never e ∙ ap (λ f. fits f e) (sym (List·getD-eq-default fields unknown {n = e .kind} (omega arith)))
-
--- in a list the default does not matter
-getD-in : {A : Type 0} (l : List A) (n : ℕ) (c d : A) → n < length l → getD l n c ≡ getD l n d
-getD-in [] n c d p = absurd (omega arith)
-getD-in (x ∷ l) zero c d p = refl
-getD-in (x ∷ l) (suc n) c d p = getD-in l n c d (omega arith)
-
-pub known-kind : (e : Event) (d : Fields) → e .kind ≤ 16 → fits (getD fields (e .kind) d) e ≡ inRange e
-unfolding inRange
-known-kind e d l = ap (λ f. fits f e) (getD-in fields (e .kind) d unknown (omega arith))

@@ -1,9 +1,26 @@
 // Rows 1 to 3, which concern every event: its day, and its fields; unknown kinds too. A field that a kind does not name is 0.
 use rules::Event;
 use rules::Fields;
+use rules::kinds::APPROVAL;
+use rules::kinds::ARRANGEMENT;
+use rules::kinds::BILL;
+use rules::kinds::CALL;
+use rules::kinds::CERTIFICATE;
+use rules::kinds::CLOSING;
+use rules::kinds::DEPOSIT_ASKED;
+use rules::kinds::DEPOSIT_MOVED;
+use rules::kinds::DEPOSIT_PAID;
+use rules::kinds::DISCONNECTION;
+use rules::kinds::FEE;
+use rules::kinds::FINAL_NOTICE;
+use rules::kinds::PAYMENT;
+use rules::kinds::PAYOUT;
+use rules::kinds::RECONNECTION;
+use rules::kinds::RETURNED_PAYMENT;
 ghost use mathlib.Core.Path.{_≡_};
 ghost use mathlib.Core.Bool.{cond, not};
-ghost use Rattle.rules.specs.Range.{inRange};
+ghost use lib.ListN.{getD};
+ghost use Rattle.rules.specs.Range.{unknown, fields, inRange};
 ghost use Rattle.rules.specs.Accepted.{dayRows};
 
 const UNKNOWN: Fields = Fields {
@@ -27,80 +44,85 @@ const AMOUNT: Fields = Fields {
     amount_to: 10_000_000_000,
 };
 
-// The fields of the kinds, by number.
-const FIELDS: [Fields; 17] = [
-    UNKNOWN,
-    // 1 bill, 2 payment, 3 returned payment with its receipt
-    AMOUNT,
-    AMOUNT,
-    Fields {
-        option_from: 0,
-        option_to: 0,
-        amount_from: 1,
-        amount_to: 18_446_744_073_709_551_615,
-    },
-    // 4 fee with its number
-    Fields {
-        option_from: 1,
-        option_to: 3,
-        amount_from: 0,
-        amount_to: 0,
-    },
-    // 5 deposit asked, 6 deposit paid, 7 deposit moved
-    Fields {
-        option_from: 0,
-        option_to: 0,
-        amount_from: 1,
-        amount_to: 100_000_000,
-    },
-    AMOUNT,
-    PLAIN,
-    // 8 payout
-    AMOUNT,
-    // 9 certificate, 10 approval with their days
-    Fields {
-        option_from: 0,
-        option_to: 0,
-        amount_from: 1,
-        amount_to: 180,
-    },
-    Fields {
-        option_from: 0,
-        option_to: 0,
-        amount_from: 1,
-        amount_to: 30,
-    },
-    // 11 arrangement with its parts
-    Fields {
-        option_from: 2,
-        option_to: 6,
-        amount_from: 0,
-        amount_to: 0,
-    },
-    // 12 final notice, 13 call, 14 disconnection
-    PLAIN,
-    PLAIN,
-    PLAIN,
-    // 15 reconnection, in or after hours
-    Fields {
-        option_from: 0,
-        option_to: 1,
-        amount_from: 0,
-        amount_to: 0,
-    },
-    // 16 closing
-    PLAIN,
-];
+const RECEIPT: Fields = Fields {
+    option_from: 0,
+    option_to: 0,
+    amount_from: 1,
+    amount_to: 18_446_744_073_709_551_615,
+};
+
+const FEE_NUMBER: Fields = Fields {
+    option_from: 1,
+    option_to: 3,
+    amount_from: 0,
+    amount_to: 0,
+};
+
+const SUM_ASKED: Fields = Fields {
+    option_from: 0,
+    option_to: 0,
+    amount_from: 1,
+    amount_to: 100_000_000,
+};
+
+const CERTIFIED_DAYS: Fields = Fields {
+    option_from: 0,
+    option_to: 0,
+    amount_from: 1,
+    amount_to: 180,
+};
+
+const APPROVED_DAYS: Fields = Fields {
+    option_from: 0,
+    option_to: 0,
+    amount_from: 1,
+    amount_to: 30,
+};
+
+const PARTS: Fields = Fields {
+    option_from: 2,
+    option_to: 6,
+    amount_from: 0,
+    amount_to: 0,
+};
+
+const HOURS: Fields = Fields {
+    option_from: 0,
+    option_to: 1,
+    amount_from: 0,
+    amount_to: 0,
+};
+
+// The fields of a kind. A match and not an array: an array would be laid out anew at each event.
+fn fields_of(kind: u8) -> Fields
+    ensures { λ r. ⌜ r ≡ getD fields kind unknown ⌝ }
+{
+    match kind {
+        BILL => AMOUNT,
+        PAYMENT => AMOUNT,
+        RETURNED_PAYMENT => RECEIPT,
+        FEE => FEE_NUMBER,
+        DEPOSIT_ASKED => SUM_ASKED,
+        DEPOSIT_PAID => AMOUNT,
+        DEPOSIT_MOVED => PLAIN,
+        PAYOUT => AMOUNT,
+        CERTIFICATE => CERTIFIED_DAYS,
+        APPROVAL => APPROVED_DAYS,
+        ARRANGEMENT => PARTS,
+        FINAL_NOTICE => PLAIN,
+        CALL => PLAIN,
+        DISCONNECTION => PLAIN,
+        RECONNECTION => HOURS,
+        CLOSING => PLAIN,
+        _ => UNKNOWN,
+    }
+}
 
 // For every kind, option and amount, unknown kinds too.
 pub fn in_range(e: Event) -> bool
     ensures { λ r. ⌜ r ≡ inRange e ⌝ }
 {
-    let k = e.kind as usize;
-    if 16 < k {
-        return false;
-    }
-    let f = FIELDS[k];
+    let f = fields_of(e.kind);
     ((f.option_from <= e.option) & (e.option <= f.option_to))
         & ((f.amount_from <= e.amount) & (e.amount <= f.amount_to))
 }

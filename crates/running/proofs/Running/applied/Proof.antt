@@ -33,7 +33,7 @@ after-requires c κs =
     let h = s .pre .1 .looked in
     let n = charge-exact a (g .e) u (c .before .before .before .before .before .charge .result) (s .pre .1 .passing) (c .before .before .before .before .before .charge .ensures ∙ (ap (λ w. min (chargeOf w (g .e)) largest) h ∙ ap (λ w. min w largest) (charge-seen u (g .e)))) in
     let m = c .before .before .before .before .credit .ensures ∙ (ap (λ w. creditOf w (g .e)) h ∙ credit-seen u (g .e)) in
-    (s .pre .0 .places, (s .pre .0 .fit .ledger-fit, rw (c .before .before .before .before .before .before .charges .ensures, n, m) (ledger-room a (g .e) u (s .pre .1 .passing))))
+    (s .pre .0 .places, (s .pre .0 .fit .ledger-fit, (rw (c .before .before .before .before .before .before .charges .ensures, n, m) (ledger-room a (g .e) u (s .pre .1 .passing)), s .pre .0 .all-open)))
 
 watches-requires : tie.Need-watches-requires
 watches-requires c κs = search needs

@@ -6,11 +6,13 @@ use native.Mathlib.Omega.{arith}
 use lib.Dec.{ltb}
 use Rattle.basics.proofs.Cases.{and-left}
 use Rattle.rules.specs.declared.Item.{Item}
+use Rattle.rules.specs.Kinds.{payout}
+use Rattle.rules.specs.History.{is}
 use Rattle.rules.specs.Money.{keep}
 use Rattle.ledger.specs.OpenItems.{isOpen, openWith, listed}
 use Rattle.ledger.proofs.Steps.{stepped}
 use Rattle.running.specs.Running.{itemsOf, ledgerOn}
-use Rattle.running.proofs.Moves.{length-items, listed-on}
+use Rattle.running.proofs.Moves.{length-items, listed-on, none-paid}
 use borrow.Author.Needs.{needs}
 use Rattle.running.proofs.Sums.after.Statement.{statement}
 use Rattle.running.proofs.Sums.after.Tie as tie
@@ -32,9 +34,15 @@ sub-p c = search needs
 
 enter-requires : tie.Need-enter-requires
 enter-requires c κs =
-    let s = c .before .before .before .before .before .before .before .before .before .before .before in
+    let s = c .before .before .before .before .before .before .before .before .before .before .before .before in
     let a = s .args in
-    (s .pre .0, λ q. omega (arith, s .pre .1 .1 .count-room (and-left (a .adds) _ q), length-items (a .self .count) (a .days .now) (a .amounts .now) (a .uptos .now)))
+    let o = c .before .before .before .before .before .select64 in (
+      s .pre .0,
+      (
+        λ q. none-paid (a .self) (a .days .now) (a .amounts .now) (a .uptos .now) (a .credit) (o .result) (is payout (a .e)) (a .e .amount) q (o .ensures) (s .pre .1 .1 .1),
+        λ q. omega (arith, s .pre .1 .1 .0 .count-room (and-left (a .adds) _ q), length-items (a .self .count) (a .days .now) (a .amounts .now) (a .uptos .now)),
+      ),
+    )
 
 same-length : tie.Need-same-length
 same-length c = search needs
@@ -47,9 +55,9 @@ same-length-3 c = search needs
 
 returns : tie.Need-returns
 returns c =
-    let s = c .before .before .before .before .before .before .before .before .before .before .before .before .before .before .before .before .before .before in
+    let s = c .before .before .before .before .before .before .before .before .before .before .before .before .before .before .before .before .before .before .before in
     let a = s .args in
-    let o = c .before .before .before .before .before .before .before .before .before .before .before .select64 in
+    let o = c .before .before .before .before .before .before .before .before .before .before .before .before .select64 in
     let k = c .before .before .before .before .before .before .enter in
     let l = ledgerOn (a .self) (a .days .now) (a .amounts .now) (a .uptos .now) in
     let p = a .self .credited + a .credit - (a .self .«paid_out» + o .result) in
