@@ -114,7 +114,7 @@ mod tests {
 
     #[test]
     fn an_odd_event_shows_its_numbers() {
-        let odd = make::event(17, 1, 2, 3);
+        let odd = Event::new(17, 1, 2, 3);
         assert_eq!(event(odd), "day 2 kind 17 option 1 amount 3");
     }
 

@@ -8,5 +8,21 @@ pub struct Event {
     pub amount: u64,
 }
 
+impl Event {
+    pub fn new(kind: u8, option: u8, day: u32, amount: u64) -> Event {
+        Event {
+            kind,
+            option,
+            day,
+            amount,
+        }
+    }
+
+    /// An event that names no option.
+    pub fn of(kind: u8, day: u32, amount: u64) -> Event {
+        Event::new(kind, 0, day, amount)
+    }
+}
+
 /// The records of each account in turn, before any posting.
 pub type AccountList = Vec<Vec<Event>>;

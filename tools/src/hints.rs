@@ -123,25 +123,16 @@ fn certificate(t: u32, accepted: &[Event]) -> Option<String> {
 mod tests {
     use super::*;
 
-    fn event(kind: u8, day: u32, amount: u64) -> Event {
-        Event {
-            kind,
-            option: 0,
-            day,
-            amount,
-        }
-    }
-
     fn cut(number: u8, day: u32, accepted: &[Event]) -> String {
-        hint(number, &event(14, day, 0), accepted).unwrap()
+        hint(number, &Event::of(14, day, 0), accepted).unwrap()
     }
 
     #[test]
     fn a_disconnection_shows_its_days_and_what_there_was() {
         let accepted = [
-            event(FINAL_NOTICE, 20, 0),
-            event(CALL, 21, 0),
-            event(CALL, 25, 0),
+            Event::of(FINAL_NOTICE, 20, 0),
+            Event::of(CALL, 21, 0),
+            Event::of(CALL, 25, 0),
         ];
         assert_eq!(
             cut(13, 25, &accepted),
@@ -158,15 +149,15 @@ mod tests {
 
     #[test]
     fn what_bars_a_disconnection_is_named() {
-        let arrangement = Event {
-            option: 3,
-            ..event(ARRANGEMENT, 22, 0)
-        };
+        let arrangement = Event::new(ARRANGEMENT, 3, 22, 0);
         assert_eq!(
             cut(14, 25, &[arrangement]),
             "it was made on day 22 (2000-01-23) in 3 parts"
         );
-        let accepted = [event(CERTIFICATE, 21, 30), event(CERTIFICATE, 23, 5)];
+        let accepted = [
+            Event::of(CERTIFICATE, 21, 30),
+            Event::of(CERTIFICATE, 23, 5),
+        ];
         assert_eq!(
             cut(15, 25, &accepted),
             "it is of day 21 (2000-01-22) and runs to day 50 (2000-02-20)"
@@ -175,9 +166,9 @@ mod tests {
 
     #[test]
     fn a_receipt_was_returned_or_never_given_or_is_too_old() {
-        let mut accepted = vec![event(PAYMENT, 5, 100); 40];
-        accepted.push(event(RETURNED_PAYMENT, 6, 39));
-        let told = |number| hint(6, &event(RETURNED_PAYMENT, 7, number), &accepted).unwrap();
+        let mut accepted = vec![Event::of(PAYMENT, 5, 100); 40];
+        accepted.push(Event::of(RETURNED_PAYMENT, 6, 39));
+        let told = |number| hint(6, &Event::of(RETURNED_PAYMENT, 7, number), &accepted).unwrap();
         assert_eq!(told(39), "it was returned on day 6 (2000-01-07)");
         assert_eq!(told(8), "only the newest 32 of 40 payments can be returned");
         assert_eq!(told(41), "the payments up to here have receipts up to 40");
@@ -186,9 +177,9 @@ mod tests {
     #[test]
     fn other_numbers_speak_for_themselves() {
         for number in [0, 1, 3, 4, 5, 7, 9, 17, 18, 19] {
-            assert_eq!(hint(number, &event(14, 25, 0), &[]), None);
+            assert_eq!(hint(number, &Event::of(14, 25, 0), &[]), None);
         }
-        let late = hint(2, &event(13, 4, 0), &[event(13, 5, 0)]);
+        let late = hint(2, &Event::of(13, 4, 0), &[Event::of(13, 5, 0)]);
         assert_eq!(
             late.as_deref(),
             Some("the last accepted event is of day 5 (2000-01-06)")
@@ -198,14 +189,14 @@ mod tests {
     #[test]
     fn no_hint_reaches_before_the_first_day_or_past_the_last() {
         let accepted = [
-            event(FINAL_NOTICE, 0, 0),
-            event(CERTIFICATE, 73_048, 180),
-            event(CERTIFICATE, u32::MAX, u64::MAX / 2),
+            Event::of(FINAL_NOTICE, 0, 0),
+            Event::of(CERTIFICATE, 73_048, 180),
+            Event::of(CERTIFICATE, u32::MAX, u64::MAX / 2),
         ];
         for number in 0..=22 {
             for day in [0, 1, 4, 19, 364, 365, u32::MAX] {
-                hint(number, &event(14, day, 0), &accepted);
-                hint(number, &event(14, day, 0), &[]);
+                hint(number, &Event::of(14, day, 0), &accepted);
+                hint(number, &Event::of(14, day, 0), &[]);
             }
         }
     }

@@ -130,22 +130,17 @@ fn counted(number: &str, what: &str) -> String {
 mod tests {
     use super::*;
 
-    fn event(kind: u8, day: u32, amount: u64) -> Event {
-        Event {
-            kind,
-            option: 0,
-            day,
-            amount,
-        }
-    }
-
     fn reply(number: u8, owed: i64) -> Reply {
         Reply { number, owed }
     }
 
     #[test]
     fn the_columns_stand_under_each_other() {
-        let events = [event(1, 9, 10_000), event(2, 131, 4_000), event(14, 131, 0)];
+        let events = [
+            Event::of(1, 9, 10_000),
+            Event::of(2, 131, 4_000),
+            Event::of(14, 131, 0),
+        ];
         let replies = [reply(0, 10_000), reply(0, 6_000), reply(12, 6_000)];
         let report = b"account owed held open service refused\n0 6000 0 1 on 1\n";
         let expected = "\
@@ -164,7 +159,7 @@ Standing: 60.00 owed, no deposit held, 1 open charge, service on, 1 event refuse
 
     #[test]
     fn receipts_count_accepted_payments_alone() {
-        let events = [event(2, 5, 1), event(2, 4, 1), event(2, 5, 1)];
+        let events = [Event::of(2, 5, 1), Event::of(2, 4, 1), Event::of(2, 5, 1)];
         let told = lines(&events, &[reply(0, -1), reply(2, -1), reply(0, -2)]);
         assert_eq!(told[0].answer, "accepted, receipt 1");
         assert!(told[1].answer.starts_with("refused 2: "));

@@ -179,15 +179,6 @@ fn write_event(event: &Event) -> Result<String, String> {
 mod tests {
     use super::*;
 
-    fn event(kind: u8, option: u8, day: u32, amount: u64) -> Event {
-        Event {
-            kind,
-            option,
-            day,
-            amount,
-        }
-    }
-
     /// The words of the mistake in a text, which is in the line given.
     fn mistake(text: &str, line: usize) -> String {
         let mistake = read(text).unwrap_err();
@@ -201,8 +192,8 @@ mod tests {
         for kind in 1..=16 {
             for option in [0, 1, 6, 255] {
                 for amount in [0, 1, 10_000, u64::MAX] {
-                    list[0].push(event(kind, option, 0, amount));
-                    list[1].push(event(kind, option, u32::MAX, amount));
+                    list[0].push(Event::new(kind, option, 0, amount));
+                    list[1].push(Event::new(kind, option, u32::MAX, amount));
                 }
             }
         }
@@ -213,10 +204,10 @@ mod tests {
     #[test]
     fn a_plain_event_is_a_plain_line() {
         let list = [vec![
-            event(1, 0, 100, 10_000),
-            event(14, 0, 131, 0),
-            event(11, 3, 140, 0),
-            event(13, 2, 141, 7),
+            Event::new(1, 0, 100, 10_000),
+            Event::new(14, 0, 131, 0),
+            Event::new(11, 3, 140, 0),
+            Event::new(13, 2, 141, 7),
         ]];
         let text = "account # 0\n  100 bill 10000\n  131 cut\n  140 arrangement 3\n  141 call option=2 amount=7\n";
         assert_eq!(write(&list).unwrap(), text);
@@ -227,7 +218,7 @@ mod tests {
         let text =
             "# a story\r\n\naccount # one\r\n 1,000 bill 10_000 # the first\n\t1001 cut\naccount";
         let expected = vec![
-            vec![event(1, 0, 1_000, 10_000), event(14, 0, 1_001, 0)],
+            vec![Event::new(1, 0, 1_000, 10_000), Event::new(14, 0, 1_001, 0)],
             vec![],
         ];
         assert_eq!(read(text).unwrap(), expected);
@@ -282,7 +273,7 @@ mod tests {
 
     #[test]
     fn a_kind_without_a_word_is_not_written() {
-        assert!(write(&[vec![event(17, 0, 0, 0)]]).is_err());
-        assert!(write(&[vec![event(0, 0, 0, 0)]]).is_err());
+        assert!(write(&[vec![Event::new(17, 0, 0, 0)]]).is_err());
+        assert!(write(&[vec![Event::new(0, 0, 0, 0)]]).is_err());
     }
 }

@@ -2,22 +2,13 @@
 use tools::event::Event;
 use tools::{book, core};
 
-fn event(kind: u8, day: u32, amount: u64) -> Event {
-    Event {
-        kind,
-        option: 0,
-        day,
-        amount,
-    }
-}
-
 /// Two bills, a payment and a disconnection without a notice.
 fn worked_example() -> Vec<u8> {
     book::encode(&[vec![
-        event(1, 100, 10_000),
-        event(1, 130, 5_000),
-        event(2, 131, 4_000),
-        event(14, 131, 0),
+        Event::of(1, 100, 10_000),
+        Event::of(1, 130, 5_000),
+        Event::of(2, 131, 4_000),
+        Event::of(14, 131, 0),
     ]])
 }
 
@@ -141,9 +132,9 @@ fn memory_for_a_history_is_long_enough_or_left_alone() {
 #[test]
 fn each_account_has_its_own_history() {
     let book = book::encode(&[
-        vec![event(1, 5, 700)],
+        vec![Event::of(1, 5, 700)],
         vec![],
-        vec![event(2, 6, 300), event(3, 6, 2), event(3, 6, 1)],
+        vec![Event::of(2, 6, 300), Event::of(3, 6, 2), Event::of(3, 6, 1)],
     ]);
     let owed = |i| -> Vec<i64> {
         let replies = core::history(&book, i).unwrap();
@@ -157,13 +148,13 @@ fn each_account_has_its_own_history() {
 #[test]
 fn a_lawful_disconnection_goes_through() {
     let events = [
-        event(1, 0, 6_000),
-        event(12, 19, 0),
-        event(12, 20, 0),
-        event(13, 22, 0),
-        event(14, 24, 0),
-        event(14, 25, 0),
-        event(14, 25, 0),
+        Event::of(1, 0, 6_000),
+        Event::of(12, 19, 0),
+        Event::of(12, 20, 0),
+        Event::of(13, 22, 0),
+        Event::of(14, 24, 0),
+        Event::of(14, 25, 0),
+        Event::of(14, 25, 0),
     ];
     assert_eq!(answers(&events), (vec![0, 10, 0, 0, 12, 0, 5], 7_500));
 }
@@ -171,10 +162,10 @@ fn a_lawful_disconnection_goes_through() {
 #[test]
 fn the_longest_line_has_room() {
     // The largest sums, credit and deposit, and a record of each account.
-    let events: Vec<Event> = (0..100).map(|_| event(2, 0, 10_000_000_000)).collect();
+    let events: Vec<Event> = (0..100).map(|_| Event::of(2, 0, 10_000_000_000)).collect();
     let mut account = events;
-    account.push(event(5, 0, 100_000_000));
-    account.push(event(6, 0, 100_000_000));
+    account.push(Event::of(5, 0, 100_000_000));
+    account.push(Event::of(6, 0, 100_000_000));
     let book = book::encode(&[account.clone(), account]);
     let expected = "account owed held open service refused\n\
         0 -1000000000000 100000000 0 on 0\n1 -1000000000000 100000000 0 on 0\n";

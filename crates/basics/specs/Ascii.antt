@@ -1,6 +1,6 @@
 -- A quoted text as the bytes of its ASCII codes.
 use Prim.Native.Nat.{ℕ}
-use Prim.Native.Char.{Char, code}
+use Prim.Native.Char.{code}
 use Prim.Native.String.{String}
 use Prim.Native.String as string
 use mathlib.Core.List.{List, [], _∷_}

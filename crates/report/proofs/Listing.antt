@@ -11,7 +11,7 @@ use lib.ListN.{length, drop, length-append, drop-of-length-le}
 use lib.Seq.{sets, drop-cons, length-sets}
 use Rattle.basics.specs.Ascii.{ascii}
 use Rattle.little.proofs.Stores.{sets-front, sets-then}
-use Rattle.layout.specs.Book.{AccountList, mostAccounts, accounts, bookRefusal, decode}
+use Rattle.layout.specs.Book.{mostAccounts, accounts, bookRefusal, decode}
 use Rattle.layout.specs.Finding.{accountOf}
 use Rattle.layout.proofs.Told.{book-facts}
 use Rattle.layout.proofs.Found.{decode-length}

@@ -1,7 +1,7 @@
 -- Texts of sample books, which the checker computes: document 01's worked example, and ours.
 use Prim.Native.Nat.{ℕ}
 use mathlib.Core.Path.{_≡_, refl}
-use mathlib.Core.List.{List, [], _∷_}
+use mathlib.Core.List.{[], _∷_}
 use Rattle.basics.specs.Ascii.{ascii}
 use Rattle.rules.specs.declared.Event.{Event}
 use Rattle.rules.specs.Table.{refusalBy}

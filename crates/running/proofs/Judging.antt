@@ -1,6 +1,6 @@
 -- An account in lent memory steps as the account by value does.
-use Prim.Native.Nat.{ℕ, _≤_}
-use mathlib.Core.Path.{_≡_, sym, ap, _∙_}
+use Prim.Native.Nat.{ℕ}
+use mathlib.Core.Path.{_≡_, ap, _∙_}
 use mathlib.Core.Bool.{cond}
 use mathlib.Core.List.{List}
 use native.Mathlib.Omega.{arith}
@@ -25,7 +25,6 @@ use Rattle.account.specs.Claim.{accepts}
 use Rattle.account.proofs.Steps.{passing-room}
 use Rattle.running.specs.declared.Sums.{Sums}
 use Rattle.running.specs.declared.Running.{Running}
-use Rattle.running.specs.declared.Judged.{Judged}
 use Rattle.running.specs.Running.{ledgerOn, accountOn, AllOpen, Places, Held, Stepping, Changed, JudgedOn, brief, briefOf, seenOf, watched, SeenPassing}
 use Rattle.running.proofs.Moves.{length-items}
 

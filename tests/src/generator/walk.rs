@@ -4,6 +4,7 @@ use crate::make::*;
 use crate::peer::kind::*;
 use crate::peer::rows::LARGEST_AMOUNT;
 use crate::peer::LAST_DAY;
+use tools::event::Event;
 
 impl Writer<'_> {
     /// So many guided events of the kinds given, on the same day, soon after, or on a day next to a bound.
@@ -26,7 +27,7 @@ impl Writer<'_> {
     /// An event of a kind with a field that is not as it should be.
     pub fn odd_event(&mut self, kind: u8) {
         let today = self.today();
-        let mut event = event(kind, 0, today, 0);
+        let mut event = Event::of(kind, today, 0);
         if self.random.once_in(2) {
             event = self.guided_event(kind, today);
         }

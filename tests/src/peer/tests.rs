@@ -77,8 +77,8 @@ fn rows_one_to_five() {
     assert_eq!(last_answer(&[bill(73_048, 1)]), 0);
     assert_eq!(last_answer(&[call(5), call(4)]), 2);
     assert_eq!(last_answer(&[bill(0, 0)]), 3);
-    assert_eq!(last_answer(&[event(17, 0, 0, 0)]), 3);
-    assert_eq!(last_answer(&[event(0, 0, 73_049, 0)]), 1);
+    assert_eq!(last_answer(&[Event::new(17, 0, 0, 0)]), 3);
+    assert_eq!(last_answer(&[Event::new(0, 0, 73_049, 0)]), 1);
     assert_eq!(last_answer(&[close(0), close(0)]), 4);
     assert_eq!(last_answer(&[reconnection(0, 0)]), 5);
 }

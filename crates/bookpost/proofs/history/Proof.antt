@@ -1,6 +1,5 @@
 use mathlib.Core.Path.{sym, ap, _∙_}
 use Rattle.layout.specs.declared.Outcome.the-variants.{Stopped}
-use Rattle.layout.specs.Answers.{outcomeOf}
 use Rattle.layout.proofs.Told.{stopped, unchanged}
 use Rattle.bookpost.proofs.Noting.{history-room, history-told}
 use borrow.Author.Needs.{needs}

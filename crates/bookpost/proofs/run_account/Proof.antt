@@ -3,8 +3,7 @@ use mathlib.Core.Path.{_≡_, sym, ap, _∙_}
 use native.Mathlib.Omega.{arith}
 use lib.ListN.{length}
 use borrow.Author.Needs.{needs}
-use Rattle.layout.specs.Book.{accounts, records, base, eventAt}
-use Rattle.layout.specs.Finding.{recordOf}
+use Rattle.layout.specs.Book.{accounts, base, eventAt}
 use Rattle.layout.proofs.Told.{book-facts}
 use Rattle.layout.proofs.Found.{record-at}
 use Rattle.account.specs.Claim.{accepts}

@@ -1,5 +1,4 @@
-use Prim.Native.Nat.{_+_}
-use mathlib.Core.Path.{sym, _∙_}
+use mathlib.Core.Path.{sym}
 use native.Mathlib.Omega.{arith}
 use Rattle.layout.proofs.Told.{book-facts}
 use Rattle.report.proofs.Listing.{plenty, counted}

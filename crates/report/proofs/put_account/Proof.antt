@@ -1,4 +1,3 @@
-use Prim.Native.Nat.{_+_}
 use mathlib.Core.Path.{ap}
 use native.Mathlib.Omega.{arith}
 use lib.ListN.{length}

@@ -1,11 +1,11 @@
-use Prim.Native.Nat.{suc, _+_, _-_, _≤_}
-use mathlib.Core.Path.{_≡_, sym, ap, _∙_}
+use Prim.Native.Nat.{_+_, _-_}
+use mathlib.Core.Path.{ap, _∙_}
 use mathlib.Core.List.{[], _∷_, _++_}
 use native.Mathlib.Omega.{arith}
 use native.Mathlib.Numerals.{add-one}
 use lib.ListN.{length, set, length-set}
-use lib.Seq.{sets, length-sets}
-use Rattle.text.specs.Decimal.{decimal, signed}
+use lib.Seq.{length-sets}
+use Rattle.text.specs.Decimal.{decimal}
 use Rattle.text.proofs.Numerals.{signed-below, signed-above}
 use borrow.Author.Needs.{needs}
 use Rattle.text.proofs.put_difference.Statement.{statement}

@@ -1,4 +1,3 @@
-use mathlib.Core.Path.{_∙_}
 use native.Mathlib.Omega.{arith}
 use Rattle.report.proofs.Lines.{standing-length}
 use borrow.Author.Needs.{needs}

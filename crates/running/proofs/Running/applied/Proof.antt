@@ -1,7 +1,6 @@
 use Prim.Native.Nat.{min}
-use mathlib.Core.Path.{_≡_, ap, _∙_}
+use mathlib.Core.Path.{ap, _∙_}
 use mathlib.Core.Bool.{cond}
-use lib.ListN.{length}
 use Rattle.basics.specs.Machine.{largest}
 use Rattle.rules.specs.Money.{charges}
 use Rattle.rules.specs.Table.{chargeOf, creditOf}

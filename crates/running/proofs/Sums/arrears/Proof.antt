@@ -1,4 +1,3 @@
-use mathlib.Core.Path.{_∙_}
 use Rattle.running.proofs.Moves.{listed-on, items-small}
 use borrow.Author.Needs.{needs}
 use Rattle.running.proofs.Sums.arrears.Statement.{statement}

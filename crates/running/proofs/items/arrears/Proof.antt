@@ -1,8 +1,8 @@
 use Prim.Native.Nat.{_-_, _≤_}
-use mathlib.Core.Path.{_≡_, ap}
+use mathlib.Core.Path.{_≡_}
 use native.Mathlib.Omega.{arith}
 use Rattle.rules.specs.Money.{sumOf, due}
-use Rattle.running.specs.Running.{itemsOf, Places}
+use Rattle.running.specs.Running.{itemsOf}
 use Rattle.running.proofs.Moves.{sum-next, sum-room}
 use borrow.Author.Needs.{needs}
 use Rattle.running.proofs.items.arrears.Statement.{statement}

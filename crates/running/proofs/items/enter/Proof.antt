@@ -1,8 +1,6 @@
-use Prim.Native.Nat.{_<_}
-use mathlib.Core.Path.{_≡_, sym, ap, _∙_}
+use mathlib.Core.Path.{sym, ap, _∙_}
 use mathlib.Core.List.{[], _∷_, _++_, append-nil}
 use native.Mathlib.Omega.{arith}
-use lib.ListN.{length}
 use Rattle.running.proofs.Moves.{items-add}
 use borrow.Author.Needs.{needs}
 use Rattle.running.proofs.items.enter.Statement.{statement}
