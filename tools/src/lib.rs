@@ -1,6 +1,7 @@
 //! What the tools, the tests and the benchmark share: events, the book file, its readable text, and the proved core.
 
 pub mod book;
+pub mod command;
 pub mod core;
 pub mod event;
 pub mod files;

@@ -31,6 +31,11 @@ const MEANINGS: [&str; 22] = [
     "the memory lent is too short",
 ];
 
+/// Why a book is refused, as the commands say it.
+pub fn book_refused(number: u8) -> String {
+    format!("book refused {number}: {}", meaning(number))
+}
+
 /// What a refusing number means.
 pub fn meaning(number: u8) -> &'static str {
     usize::from(number)

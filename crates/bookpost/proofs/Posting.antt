@@ -161,12 +161,16 @@ module _ (b : List ℕ) (i k left : ℕ) (h : Running) (ds ms us ps : List ℕ) 
       record {
         parts =
             record {
+              last-is = ap (λ x. x .last) p;
               charged-is = ap (λ x. x .ledger .charged) p;
               credited-is = ap (λ x. x .ledger .credited) p;
               paid-is = ap (λ x. x .ledger .«paid_out») p;
               count-is = sym (length-items (h .sums .count) ds ms us) ∙ ap (λ x. x .ledger .items .count) p;
+              receipts-are = ap (λ x. x .receipts .count) p;
               deposit-is = ap (λ x. x .deposit) p;
               collection-is = ap (λ x. x .collection) p;
+              medical-is = ap (λ x. x .medical) p;
+              arrangement-is = ap (λ x. x .arrangement) p;
             };
         refused-is = omega (arith, t .turning .count, ap (λ l. refusedIn (answers a l)) w);
         claim = demand-3 (accountOf b i);

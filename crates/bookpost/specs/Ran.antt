@@ -12,12 +12,16 @@ use Rattle.bookpost.specs.declared.Ran.{Ran}
 
 -- r is the account a, but for its items and its newest payments
 pub record PartsOf (r : Running) (a : Account) : Type 0 where
+  pub last-is : r .last ≡ a .last
   pub charged-is : r .sums .charged ≡ a .ledger .charged
   pub credited-is : r .sums .credited ≡ a .ledger .credited
   pub paid-is : r .sums .«paid_out» ≡ a .ledger .«paid_out»
   pub count-is : r .sums .count ≡ a .ledger .items .count
+  pub receipts-are : r .receipts ≡ a .receipts .count
   pub deposit-is : r .deposit ≡ a .deposit
   pub collection-is : r .collection ≡ a .collection
+  pub medical-is : r .medical ≡ a .medical
+  pub arrangement-is : r .arrangement ≡ a .arrangement
 
 -- the account after the records es, how many were refused, and demand 3 of them
 pub record RanOver (p : Ran) (es : List Event) : Type 0 where

@@ -2,7 +2,7 @@
 use Prim.Native.Nat.{ℕ}
 use mathlib.Core.Path.{_≡_, ap, _∙_}
 use mathlib.Core.Bool.{cond}
-use mathlib.Core.List.{List}
+use mathlib.Core.List.{List, []}
 use native.Mathlib.Omega.{arith}
 use Rattle.basics.proofs.Cases.{on}
 use lib.ListN.{length}
@@ -25,7 +25,7 @@ use Rattle.account.specs.Claim.{accepts}
 use Rattle.account.proofs.Steps.{passing-room}
 use Rattle.running.specs.declared.Sums.{Sums}
 use Rattle.running.specs.declared.Running.{Running}
-use Rattle.running.specs.Running.{ledgerOn, accountOn, AllOpen, Places, Held, Stepping, Changed, JudgedOn, brief, briefOf, seenOf, watched, SeenPassing}
+use Rattle.running.specs.Running.{ledgerOn, accountOn, AllOpen, Places, Held, Stepping, Changed, JudgedOn, brief, seenOf, watched, SeenPassing}
 use Rattle.running.proofs.Moves.{length-items}
 
 -- the places taken are as many as fit
@@ -38,9 +38,9 @@ pub held-of : (r : Running) (ds ms us ps : List ℕ) → AccountFit (accountOn r
 held-of r ds ms us ps f o a b c d = record { places = places-of (r .sums) ds ms us (f .ledger-fit) a b c; payments = d; fit = f; all-open = o }
 
 -- ---- only what the event's kind looks at
-pub brief-is : (r : Running) (ds ms us ps : List ℕ) (e : Event) → briefOf r ps e ≡ brief (view (accountOn r ds ms us ps) e)
+pub brief-is : (r : Running) (ds ms us ps : List ℕ) (e : Event) → brief (view (accountOn r [] [] [] ps) e) ≡ brief (view (accountOn r ds ms us ps) e)
 unfolding view
-brief-is r ds ms us ps e = rw (length-items (r .sums .count) ds ms us)
+brief-is r ds ms us ps e = rw (length-items (r .sums .count) ds ms us, length-items (r .sums .count) [] [] [])
 
 pub refusal-seen : (v : View) (e : Event) → refusalBy (seenOf v e) e ≡ refusalBy v e
 unfolding refusalBy

@@ -17,8 +17,8 @@ use Rattle.ledger.specs.OpenItems.{isOpen}
 use Rattle.ledger.specs.declared.Ledger.{Ledger}
 use Rattle.ledger.specs.Ledger.{ledgerWith}
 use Rattle.receipts.specs.declared.Receipts.{Receipts}
-use Rattle.receipts.specs.Receipts.{receiptsAfter, paymentBy, ReceiptsFit}
-use Rattle.deposit.specs.Deposit.{noDeposit, depositAfter, earnedBy, DepositFit}
+use Rattle.receipts.specs.Receipts.{receiptsAfter, ReceiptsFit}
+use Rattle.deposit.specs.Deposit.{noDeposit, depositAfter, DepositFit}
 use Rattle.collection.specs.declared.Collection.{Collection}
 use Rattle.collection.specs.Collection.{noCollection, collectionAfter}
 use Rattle.medical.specs.Medical.{noMedical, medicalAfter}
@@ -145,28 +145,6 @@ brief v =
 
 abbrev pub seenOf : View → Event → View
 seenOf v e = cond (looksAtDebt e) v (brief v)
-
--- the brief View of an account in lent memory; items do not matter
-abbrev pub briefOf : Running → List ℕ → Event → View
-briefOf r ps e =
-    record {
-      service = r .collection .status .service;
-      charged = r .sums .charged;
-      credited = r .sums .credited;
-      credits = r .sums .credited - r .sums .«paid_out»;
-      payment = paymentBy (receiptsOn (r .receipts) ps) (e .amount);
-      held = r .deposit .held;
-      required = r .deposit .required;
-      earned = earnedBy (r .deposit) (e .day);
-      arrears = 0;
-      «in_force» = false;
-      «notice_live» = false;
-      «notice_in_days» = false;
-      called = false;
-      certified = false;
-      approved = false;
-      «open_count» = r .sums .count;
-    }
 
 -- there is a notice after e that low arrears would make lapse
 abbrev pub watched : Collection → Event → Bool

@@ -13,13 +13,14 @@ use rules::kinds::FINAL_NOTICE;
 use rules::kinds::PAYMENT;
 use rules::kinds::RETURNED_PAYMENT;
 ghost use mathlib.Core.Path.{_≡_};
+ghost use mathlib.Core.List.{[]};
 ghost use Prim.Native.Nat.{_≤_};
 ghost use lib.ListN.{length};
 ghost use Rattle.deposit.specs.Deposit.{DepositFit};
 ghost use Rattle.receipts.specs.Receipts.{receiptsAfter, paymentBy};
 ghost use Rattle.account.specs.Account.{view as viewBy, applied as appliedBy};
 ghost use Rattle.account.specs.Post.{judged};
-ghost use Rattle.running.specs.Running.{receiptsOn, accountOn, noRunning, Held, Stepping, Changed, JudgedOn, briefOf, seenOf, watched, SeenPassing};
+ghost use Rattle.running.specs.Running.{receiptsOn, accountOn, noRunning, Held, Stepping, Changed, JudgedOn, brief as briefView, seenOf, watched, SeenPassing};
 
 // What was charged, credited and paid out, and how many items are open: the ledger without its items.
 pub struct Sums {
@@ -133,10 +134,10 @@ impl Running {
         }
     }
 
-    // The same without what only kinds 11 to 15 look at.
+    // The same without what only kinds 11 to 15 look at; the items do not matter for it.
     fn brief(self, recent: &[u64], e: Event) -> View
         requires { ⌜ (length (now recent) ≡ 32) × DepositFit (self .deposit) ⌝ }
-        ensures { λ r. ⌜ r ≡ briefOf self (now (recent .entry)) e ⌝ }
+        ensures { λ r. ⌜ r ≡ briefView (viewBy (accountOn self [] [] [] (now (recent .entry))) e) ⌝ }
     {
         let s = self.sums;
         let d = self.deposit;

@@ -1,7 +1,6 @@
 //! Turns the readable text of a book into the book, and back.
-use std::env;
 use std::process::ExitCode;
-use tools::{book, core, files, text, words};
+use tools::{book, command, core, files, text, words};
 
 const USAGE: &str = "\
 bookfile pack [TEXT [BOOK]]     makes the book of a text
@@ -12,26 +11,14 @@ Without file names, or with -, it reads from standard input and writes to standa
 type Turn = fn(&[u8]) -> Result<Vec<u8>, String>;
 
 fn main() -> ExitCode {
-    let arguments: Vec<String> = env::args_os()
-        .skip(1)
-        .map(|argument| argument.to_string_lossy().into_owned())
-        .collect();
+    let arguments = command::arguments();
     let arguments: Vec<&str> = arguments.iter().map(String::as_str).collect();
     let (turn, names): (Turn, _) = match arguments[..] {
         ["pack", ref names @ ..] if names.len() <= 2 => (pack, names),
         ["unpack", ref names @ ..] if names.len() <= 2 => (unpack, names),
-        _ => {
-            eprintln!("{USAGE}");
-            return ExitCode::from(2);
-        }
+        _ => return command::misused(USAGE),
     };
-    match run(turn, names) {
-        Ok(()) => ExitCode::SUCCESS,
-        Err(words) => {
-            eprintln!("bookfile: {words}");
-            ExitCode::FAILURE
-        }
-    }
+    command::end("bookfile", run(turn, names))
 }
 
 fn run(turn: Turn, names: &[&str]) -> Result<(), String> {
@@ -58,6 +45,6 @@ fn unpack(input: &[u8]) -> Result<Vec<u8>, String> {
 fn accepted(book: &[u8]) -> Result<(), String> {
     match core::book_refusal(book) {
         None => Ok(()),
-        Some(number) => Err(format!("book refused {number}: {}", words::meaning(number))),
+        Some(number) => Err(words::book_refused(number)),
     }
 }

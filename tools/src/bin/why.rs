@@ -1,18 +1,14 @@
 //! Shows the history of one account event by event, with the core's answers in words: why was this refused?
-use std::env;
 use std::process::ExitCode;
 use tools::event::Event;
-use tools::{book, core, files, story, words};
+use tools::{book, command, core, files, story, words};
 
 const USAGE: &str = "\
 why [BOOK [ACCOUNT]]   shows the history of an account of a book, the first (0) where none is named
 With - for the book, it is read from standard input.";
 
 fn main() -> ExitCode {
-    let arguments: Vec<String> = env::args_os()
-        .skip(1)
-        .map(|argument| argument.to_string_lossy().into_owned())
-        .collect();
+    let arguments = command::arguments();
     let arguments: Vec<&str> = arguments.iter().map(String::as_str).collect();
     let asked = match arguments[..] {
         [] => Some(("-", 0)),
@@ -21,22 +17,14 @@ fn main() -> ExitCode {
         _ => None,
     };
     let Some((name, account)) = asked else {
-        eprintln!("{USAGE}");
-        return ExitCode::from(2);
+        return command::misused(USAGE);
     };
-    match show(name, account) {
-        Ok(()) => ExitCode::SUCCESS,
-        Err(words) => {
-            eprintln!("why: {words}");
-            ExitCode::FAILURE
-        }
-    }
+    command::end("why", show(name, account))
 }
 
 fn show(name: &str, account: usize) -> Result<(), String> {
     let book = files::read(name)?;
-    let replies = core::history(&book, account)
-        .map_err(|n| format!("book refused {n}: {}", words::meaning(n)))?;
+    let replies = core::history(&book, account).map_err(words::book_refused)?;
     let list = book::decode(&book);
     let Some(events) = list.get(account) else {
         return Err(no_account(account, &list));

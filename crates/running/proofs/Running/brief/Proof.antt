@@ -1,3 +1,7 @@
+use mathlib.Core.Path.{sym}
+use mathlib.Core.List.{[]}
+use Rattle.account.specs.Account.{view}
+use Rattle.running.proofs.Moves.{length-items}
 use mathlib.Core.Bool.{false}
 use borrow.Author.Needs.{needs}
 use Rattle.running.proofs.Running.brief.Statement.{statement}
@@ -16,8 +20,10 @@ earned-requires : tie.Need-earned-requires
 earned-requires c κs = search needs
 
 returns : tie.Need-returns
+unfolding view
 returns c =
     let a = c .before .before .before .before .before .before .before .before .args in
+    let n = sym (length-items (a .self .sums .count) [] [] []) in
     λ i.
     record {
       service = c .before .before .before .service .ensures i;
@@ -35,7 +41,7 @@ returns c =
       called = false;
       certified = false;
       approved = false;
-      «open_count» = a .self .sums .count;
+      «open_count» = n i;
     }
 
 pub brief-spec : {M : Type 1} → statement M
