@@ -42,6 +42,7 @@ pub struct Replayed {
 }
 
 // An open item as it is shown: its day and its unpaid part.
+#[repr(C)]
 pub struct OpenItem {
     pub day: u32,
     pub unpaid: u64,

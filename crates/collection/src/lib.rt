@@ -18,6 +18,7 @@ pub struct Status {
 }
 
 // The newest final notice, and whether it lives on: no disconnection used it up and no event made it lapse.
+#[repr(C)]
 pub struct Notice {
     pub day: u32,
     pub live: bool,
@@ -25,6 +26,7 @@ pub struct Notice {
 
 // The day after the last call, and the day after the last call on an earlier day; 0 for none. A disconnection on a day can
 // ask for no other: a call on the day itself does not count, and an older one is further back.
+#[repr(C)]
 pub struct Calls {
     pub last: u32,
     pub earlier: u32,

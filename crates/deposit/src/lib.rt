@@ -14,6 +14,7 @@ ghost use Rattle.deposit.specs.Conduct.{noConduct, conductAfter, inYearB
 
 // The days after the three newest final notices, newest first, and the day after the newest disconnection; 0 for none.
 // A third notice within the year is one too many, so older ones are never asked for.
+#[repr(C)]
 pub struct Conduct {
     pub first: u32,
     pub second: u32,
@@ -21,6 +22,7 @@ pub struct Conduct {
     pub cut: u32,
 }
 
+#[repr(C)]
 pub struct Deposit {
     pub held: u64,
     pub required: u64,

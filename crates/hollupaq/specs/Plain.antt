@@ -26,3 +26,7 @@ pub record Noted (b : List ℕ) (i : ℕ) (ns ns2 : List ℕ) (os os2 : List ℤ
   pub answer : r ≡ historyRefusal b i (length ns) (length os)
   pub numbers : ns2 ≡ after (historyRefusal b i (length ns) (length os)) (numbersOf (accountOf b i)) ns
   pub owing : os2 ≡ after (historyRefusal b i (length ns) (length os)) (owedFrom [] (accountOf b i)) os
+
+-- the bytes of an account that the caller keeps
+abbrev pub accountBytes : ℕ
+accountBytes = 1952

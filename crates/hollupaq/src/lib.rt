@@ -1,4 +1,6 @@
 // The core for programs in other languages: a static library with plain names. include/hollupaq.h says the same in C.
+mod kept;
+
 use bookpost::history;
 use report::Printed;
 use report::report;

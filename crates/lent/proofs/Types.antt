@@ -27,7 +27,7 @@ use Rattle.account.proofs.Truth as truth-type
 use Rattle.account.proofs.Truth.Laws as truth-type′
 use Rattle.lent.proofs.Data.{Data, Laws, Two, struct, TwoLaws}
 
-abbrev of-row : (R : RattleType) → Ty → (R .Denot → Val) → Data
+abbrev pub of-row : (R : RattleType) → Ty → (R .Denot → Val) → Data
 of-row R τ val = record { Denot = R .Denot; mir = τ; written = R .written; reaches = R .reaches; own = R .own; coded = R .coded; val = val }
 
 abbrev pub account : Data

@@ -10,6 +10,7 @@ ghost use Rattle.medical.specs.Medical.{noMedical, medicalAfter, certifi
 
 // The day past the end of the certificate that ends last, and of the approval that ends last among those posted after the
 // newest certificate; 0 for none. No later day can ask for more.
+#[repr(C)]
 pub struct Medical {
     pub certified_to: u64,
     pub approved_to: u64,

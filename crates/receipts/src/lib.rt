@@ -8,6 +8,7 @@ ghost use Rattle.receipts.specs.Receipts.{noReceipts, receiptsAfter, pay
 
 // The payment of receipt r stands at r mod 32: a payment takes the place of the one 32 before it. 0, which no payment is,
 // where it was returned or there is none.
+#[repr(C)]
 pub struct Receipts {
     pub count: u64,
     pub recent: [u64; 32],

@@ -8,6 +8,7 @@ ghost use Rattle.rules.specs.Service.{isOn, isOff, isClosed};
 ghost use Rattle.rules.specs.Answer.{numberOf, receiptOf};
 
 // One thing that happened to an account. specs/Kinds.antt names the sixteen kinds, specs/Range.antt the fields of each.
+#[repr(C)]
 pub struct Event {
     pub kind: u8,
     pub option: u8,
@@ -36,6 +37,7 @@ pub enum Answer {
 }
 
 // A charge: its day, its amount, and the sum of all charges up to it (document 01: an item, a_k, C_k).
+#[repr(C)]
 pub struct Item {
     pub day: u32,
     pub amount: u64,

@@ -1,0 +1,83 @@
+-- The plain types that the library's functions take and answer, as data with its laws (crates/lent/proofs/Data.antt).
+use mathlib.Core.Path.{_≡_, refl}
+use mathlib.Core.List.{[], _∷_}
+use mir.Syntax.{w8, tyInt}
+use mir.Val.{vint}
+use prog.Memory.{size}
+use denote.Builtin.{u8}
+use denote.Plain.{uint-tells, uint-makes, uint-lawful, uint-copy}
+use denote.Struct.Laws as structs
+use Rattle.plain.proofs.PlainAccount as account-type
+use Rattle.plain.proofs.PlainAccount.Laws as account-type′
+use Rattle.plain.proofs.PlainAnswer as answer-type
+use Rattle.plain.proofs.PlainAnswer.Laws as answer-type′
+use Rattle.plain.proofs.PlainPosted as posted-type
+use Rattle.plain.proofs.PlainPosted.Laws as posted-type′
+use Rattle.lent.proofs.Data.{Data, Laws, Two, TwoLaws}
+use Rattle.lent.proofs.Types.{of-row}
+use Rattle.hollupaq.specs.Plain.{accountBytes}
+
+abbrev pub account : Data
+account = of-row account-type.the-row account-type′.mir (structs.val account-type.the-type account-type′.the-laws)
+
+pub account-laws : Laws account
+account-laws = record {
+  tells = structs.tells account-type.the-type account-type′.the-laws;
+  makes = λ 𝓤 H A W. structs.makes account-type.the-type account-type′.the-plain 𝓤 H A;
+  lawful = λ 𝓤 H A W. structs.lawful account-type.the-type account-type′.the-laws 𝓤 H A W;
+  copy = λ 𝓤 H A W. structs.copy account-type.the-type account-type′.the-copy 𝓤 H A W;
+}
+
+-- what the library says of its size is so
+bytes-are : size (account .mir) ≡ accountBytes
+bytes-are = refl
+
+abbrev pub answer : Data
+answer = of-row answer-type.the-row answer-type′.mir (structs.val answer-type.the-type answer-type′.the-laws)
+
+pub answer-laws : Laws answer
+answer-laws = record {
+  tells = structs.tells answer-type.the-type answer-type′.the-laws;
+  makes = λ 𝓤 H A W. structs.makes answer-type.the-type answer-type′.the-plain 𝓤 H A;
+  lawful = λ 𝓤 H A W. structs.lawful answer-type.the-type answer-type′.the-laws 𝓤 H A W;
+  copy = λ 𝓤 H A W. structs.copy answer-type.the-type answer-type′.the-copy 𝓤 H A W;
+}
+
+-- a u8
+abbrev pub byte : Data
+byte = of-row u8 (tyInt w8) (vint w8)
+
+pub byte-laws : Laws byte
+byte-laws = record {
+  tells = uint-tells w8;
+  makes = λ 𝓤 H A W. uint-makes 𝓤 H A W w8;
+  lawful = λ 𝓤 H A W. uint-lawful 𝓤 H A W w8;
+  copy = λ 𝓤 H A W. uint-copy 𝓤 H A W w8;
+}
+
+-- what a posting answers and the account it leaves
+abbrev pub both : Two answer account
+both = record {
+  Denot = posted-type.the-row .Denot;
+  name = posted-type.struct .name;
+  written = posted-type.the-row .written;
+  reaches = posted-type.the-row .reaches;
+  own = posted-type.the-row .own;
+  coded = posted-type.the-row .coded;
+  first = λ z. z .answer;
+  second = λ z. z .account;
+  make = λ s t. record { answer = s; account = t };
+}
+
+pub both-laws : TwoLaws answer account both
+both-laws = record {
+  laws = record {
+    tells = structs.tells posted-type.the-type posted-type′.the-laws;
+    makes = λ 𝓤 H A W. structs.makes posted-type.the-type posted-type′.the-plain 𝓤 H A;
+    lawful = λ 𝓤 H A W. structs.lawful posted-type.the-type posted-type′.the-laws 𝓤 H A W;
+    copy = λ 𝓤 H A W. structs.copy posted-type.the-type posted-type′.the-copy 𝓤 H A W;
+  };
+  parts = λ z v is. (structs.owed posted-type.the-type posted-type′.the-laws z (v ∷ []) is .0, structs.owed posted-type.the-type posted-type′.the-laws z (v ∷ []) is .1 .0);
+  made = λ s t is-s is-t. structs.owes posted-type.the-type posted-type′.the-laws (record { answer = s; account = t }) (is-s, (is-t, tt));
+  whole = λ z. refl;
+}

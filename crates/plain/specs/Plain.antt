@@ -1,0 +1,85 @@
+-- An account as plain numbers, and demand 3 of one that a program keeps and posts to.
+use Prim.Native.Nat.{ℕ, zero, suc}
+use mathlib.Core.Path.{_≡_}
+use mathlib.Core.Bool.{true, false, cond}
+use mathlib.Core.List.{List, map}
+use lib.Dec.{leb}
+use Rattle.rules.specs.declared.Event.{Event}
+use Rattle.rules.specs.declared.Answer.{Answer}
+use Rattle.rules.specs.declared.Answer.the-variants.{Accepted, Refused}
+use Rattle.rules.specs.declared.Service.{Service}
+use Rattle.rules.specs.declared.Service.the-variants.{On, Off, Closed}
+use Rattle.rules.specs.Accepted.{accepted, answersBy}
+use Rattle.account.specs.declared.Account.{Account}
+use Rattle.account.specs.Account.{fresh}
+use Rattle.account.specs.Post.{posted, answers}
+use Rattle.account.specs.Claim.{ClaimOf}
+use Rattle.lent.specs.Left.{LeftBy}
+use Rattle.plain.specs.declared.PlainAccount.{PlainAccount}
+use Rattle.plain.specs.declared.PlainAnswer.{PlainAnswer}
+use Rattle.plain.specs.declared.PlainPosted.{PlainPosted}
+
+abbrev pub serviceNumber : Service → ℕ
+serviceNumber On = 0
+serviceNumber Off = 1
+serviceNumber Closed = 2
+
+abbrev pub serviceBy : ℕ → Service
+serviceBy zero = On
+serviceBy (suc zero) = Off
+serviceBy (suc (suc n)) = Closed
+
+abbrev pub plainOf : Account → PlainAccount
+plainOf a = record {
+  last = a .last;
+  ledger = a .ledger;
+  receipts = a .receipts;
+  deposit = a .deposit;
+  service = serviceNumber (a .collection .status .service);
+  notice = a .collection .notice;
+  calls = a .collection .calls;
+  medical = a .medical;
+  arrangement = a .arrangement;
+}
+
+abbrev pub accountBy : PlainAccount → Account
+accountBy p = record {
+  last = p .last;
+  ledger = p .ledger;
+  receipts = p .receipts;
+  deposit = p .deposit;
+  collection = record { status = record { service = serviceBy (p .service) }; notice = p .notice; calls = p .calls };
+  medical = p .medical;
+  arrangement = p .arrangement;
+}
+
+-- the receipt, or the number of the refusal
+abbrev pub answerOf : Answer → PlainAnswer
+answerOf (Accepted n) = record { accepted = true; number = n }
+answerOf (Refused n) = record { accepted = false; number = n }
+
+abbrev pub plainFresh : PlainAccount
+plainFresh = plainOf fresh
+
+abbrev postedOn : PlainAccount → Event → PlainPosted
+postedOn p e = record { answer = answerOf (posted (accountBy p) e .answer); account = plainOf (posted (accountBy p) e .account) }
+
+-- no account has such a service: refused with 0, a number that the table does not have, and unchanged
+abbrev notPosted : PlainAccount → PlainPosted
+notPosted p = record { answer = record { accepted = false; number = 0 }; account = p }
+
+unfoldable pub plainPosted : PlainAccount → Event → PlainPosted
+plainPosted p e = cond (leb (p .service) 2) (postedOn p e) (notPosted p)
+
+-- one posting on a plain account that is lent: it was p, s is the answer to e, and z is the account that is left
+abbrev pub PlainLeaves : PlainAccount → Event → PlainAnswer → PlainAccount → Type 0
+PlainLeaves p e s z = (s ≡ plainPosted p e .answer) × (z ≡ plainPosted p e .account)
+
+-- DEMAND 3 of z, the plain account after the list es: the answers are those of the events alone, and the claim holds of the account
+pub record PlainClaimOf (z : PlainAccount) (said : List PlainAnswer) (es : List Event) : Type 0 where
+  pub answered : said ≡ map answerOf (answersBy es)
+  pub claim : ClaimOf (accountBy z) (answers fresh es) es (accepted es)
+
+-- each event is posted on the plain account that the posting before left
+abbrev pub PlainClaim : List Event → List PlainAnswer → PlainAccount → Type 0
+PlainClaim es said z = LeftBy PlainLeaves plainFresh es said z → PlainClaimOf z said es
