@@ -13,8 +13,9 @@ use Rattle.plain.proofs.PlainAnswer as answer-type
 use Rattle.plain.proofs.PlainAnswer.Laws as answer-type′
 use Rattle.plain.proofs.PlainPosted as posted-type
 use Rattle.plain.proofs.PlainPosted.Laws as posted-type′
-use Rattle.lent.proofs.Data.{Data, Laws, Two, TwoLaws}
-use Rattle.lent.proofs.Types.{of-row}
+use Rattle.lent.proofs.Data.{Data, Laws, Two, struct, TwoLaws}
+use Rattle.lent.proofs.Types.{of-row, number}
+use Rattle.lent.proofs.Storing.{flag}
 use Rattle.hollupaq.specs.Plain.{accountBytes}
 
 abbrev pub account : Data
@@ -32,15 +33,31 @@ account-laws = record {
 bytes-are : size (account .mir) ≡ accountBytes
 bytes-are = refl
 
-abbrev pub answer : Data
-answer = of-row answer-type.the-row answer-type′.mir (structs.val answer-type.the-type answer-type′.the-laws)
+-- an answer: whether the event is accepted, and a number
+abbrev pub answer : Two flag number
+answer = record {
+  Denot = answer-type.the-row .Denot;
+  name = answer-type.struct .name;
+  written = answer-type.the-row .written;
+  reaches = answer-type.the-row .reaches;
+  own = answer-type.the-row .own;
+  coded = answer-type.the-row .coded;
+  first = λ z. z .accepted;
+  second = λ z. z .number;
+  make = λ s t. record { accepted = s; number = t };
+}
 
-pub answer-laws : Laws answer
+pub answer-laws : TwoLaws flag number answer
 answer-laws = record {
-  tells = structs.tells answer-type.the-type answer-type′.the-laws;
-  makes = λ 𝓤 H A W. structs.makes answer-type.the-type answer-type′.the-plain 𝓤 H A;
-  lawful = λ 𝓤 H A W. structs.lawful answer-type.the-type answer-type′.the-laws 𝓤 H A W;
-  copy = λ 𝓤 H A W. structs.copy answer-type.the-type answer-type′.the-copy 𝓤 H A W;
+  laws = record {
+    tells = structs.tells answer-type.the-type answer-type′.the-laws;
+    makes = λ 𝓤 H A W. structs.makes answer-type.the-type answer-type′.the-plain 𝓤 H A;
+    lawful = λ 𝓤 H A W. structs.lawful answer-type.the-type answer-type′.the-laws 𝓤 H A W;
+    copy = λ 𝓤 H A W. structs.copy answer-type.the-type answer-type′.the-copy 𝓤 H A W;
+  };
+  parts = λ z v is. (structs.owed answer-type.the-type answer-type′.the-laws z (v ∷ []) is .0, structs.owed answer-type.the-type answer-type′.the-laws z (v ∷ []) is .1 .0);
+  made = λ s t is-s is-t. structs.owes answer-type.the-type answer-type′.the-laws (record { accepted = s; number = t }) (is-s, (is-t, tt));
+  whole = λ z. refl;
 }
 
 -- a u8
@@ -56,7 +73,7 @@ byte-laws = record {
 }
 
 -- what a posting answers and the account it leaves
-abbrev pub both : Two answer account
+abbrev pub both : Two (struct flag number answer) account
 both = record {
   Denot = posted-type.the-row .Denot;
   name = posted-type.struct .name;
@@ -69,7 +86,7 @@ both = record {
   make = λ s t. record { answer = s; account = t };
 }
 
-pub both-laws : TwoLaws answer account both
+pub both-laws : TwoLaws (struct flag number answer) account both
 both-laws = record {
   laws = record {
     tells = structs.tells posted-type.the-type posted-type′.the-laws;

@@ -31,8 +31,11 @@ pub extern "C" fn hollupaq_post(a: &mut PlainAccount, e: Event) -> PlainAnswer
     ensures { λ r. ⌜ PlainLeaves (now (a .entry)) e r (now (a .exit)) ⌝ }
 {
     let p = plain::post(*a, e);
-    *a = p.account;
-    p.answer
+    let answer = p.answer;
+    if answer.accepted {
+        *a = p.account;
+    }
+    answer
 }
 
 // What is owed, negative where there is credit.
