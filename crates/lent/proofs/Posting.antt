@@ -90,14 +90,14 @@ module _ (T E S : Data) (p : Two S T) (T′ : Laws T) (E′ : Laws E) (S′ : La
     Post = walkOf 𝓤 H A lent stayed (Lent 𝓤 H A) .post (((κ, tt), (q, tt), tt, x, at), tt)
 
     -- the call of `post`: what it is passed, what it asks, and what is known of its result
-    abbrev to-post : PostingTriple 𝓤 H A .Ghost
+    abbrev pub to-post : PostingTriple 𝓤 H A .Ghost
     to-post = ((tt, tt, tt, (h, (e, tt)), (vals T h, (vals E e, tt))), tt)
 
-    goes-post : ent 𝓤 (sep 𝓤 (sem 𝓤 H A (T .own h (vals T h))) (sem 𝓤 H A (E .own e (vals E e)))) (PostingTriple 𝓤 H A .pre to-post)
+    pub goes-post : ent 𝓤 (sep 𝓤 (sem 𝓤 H A (T .own h (vals T h))) (sem 𝓤 H A (E .own e (vals E e)))) (PostingTriple 𝓤 H A .pre to-post)
     goes-post = qed W (‵ (T .own h (vals T h)) ∷ ‵ (E .own e (vals E e)) ∷ []) ∵
         nothing ! $ move ! (2 ∷ 0 ∷ []) $ fjoin ! $ move ! (1 ∷ 0 ∷ []) $ fjoin ! $ nothing ! $ join ! $ frame ! $ done !
 
-    post-said : (r : p .Denot) → ent 𝓤 (ensured 𝓤 H A by-value (Posting 𝓤 H A) tt (h, (e, tt)) tt r) (fact 𝓤 (r ≡ posted h e))
+    pub post-said : (r : p .Denot) → ent 𝓤 (ensured 𝓤 H A by-value (Posting 𝓤 H A) tt (h, (e, tt)) tt r) (fact 𝓤 (r ≡ posted h e))
     post-said r = exE 𝓤 _ (λ ws. snd∗ 𝓤 (sem 𝓤 H A (lasts by-value tt (h, (e, tt)) ws)) (fact 𝓤 (r ≡ posted h e)))
 
     exits : (r : p .Denot) (v : Val) → Is (row P) r (v ∷ []) → r ≡ posted h e

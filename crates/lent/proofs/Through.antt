@@ -24,7 +24,6 @@ use denote.Laws.{Is, shows}
 use denote.Memory.{mem, cellAt, partAt, partOf, pointee}
 use denote.Lend.{lends-ref, ref-back}
 use denote.Ref.{RefT, MutRef}
-use denote.Signature.{plain}
 use denote.Steps.{only, owned, peeks, heard, nothing}
 use denote.Struct.Steps.{spelt}
 use denote.Triple.Statement.{Contract, Triple}

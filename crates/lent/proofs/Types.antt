@@ -1,6 +1,6 @@
 -- The types that the functions of this crate take and answer, as plain data with its laws.
 use mathlib.Core.Path.{refl}
-use mathlib.Core.List.{List, [], _∷_}
+use mathlib.Core.List.{[], _∷_}
 use mir.Syntax.{Ty, w32, w64, tyInt}
 use mir.Val.{Val, vint, ofZ}
 use denote.RattleType.{RattleType}

@@ -1,8 +1,7 @@
 -- Posting on a plain account: what is posted, and what is not.
 use Prim.Native.Nat.{ℕ, zero, suc, _≤_, _<_}
-use mathlib.Core.Path.{_≡_, refl, sym, ap, _∙_}
+use mathlib.Core.Path.{_≡_, refl, ap}
 use mathlib.Core.Bool.{false, cond}
-use lib.Dec.{leb}
 use borrow.Author.Tests.{le-leb, lt-leb}
 use native.Mathlib.Omega.{arith}
 use Rattle.rules.specs.declared.Event.{Event}
@@ -12,7 +11,6 @@ use Rattle.account.specs.declared.Account.{Account}
 use Rattle.account.specs.declared.Posted.{Posted}
 use Rattle.account.specs.Post.{posted}
 use Rattle.plain.specs.declared.PlainAccount.{PlainAccount}
-use Rattle.plain.specs.declared.PlainAnswer.{PlainAnswer}
 use Rattle.plain.specs.declared.PlainPosted.{PlainPosted}
 use Rattle.plain.specs.Plain.{serviceNumber, serviceBy, plainOf, accountBy, answerOf, plainPosted}
 

@@ -1,7 +1,6 @@
 use mathlib.Core.Path.{_≡_}
 use borrow.Author.Needs.{needs}
 use Rattle.rules.specs.declared.Service.{Service}
-use Rattle.account.specs.declared.Account.{Account}
 use Rattle.plain.specs.declared.PlainAccount.{PlainAccount}
 use Rattle.plain.specs.Plain.{serviceBy, accountBy}
 use Rattle.plain.proofs.account_by.Statement.{statement}

@@ -1,6 +1,6 @@
-use mathlib.Core.Path.{_≡_, _∙_, ap}
+use mathlib.Core.Path.{_∙_, ap}
 use borrow.Author.Needs.{needs}
-use Rattle.plain.specs.Plain.{serviceNumber, plainOf}
+use Rattle.plain.specs.Plain.{serviceNumber}
 use Rattle.plain.proofs.plain_of.Statement.{statement}
 use Rattle.plain.proofs.plain_of.Tie as tie
 

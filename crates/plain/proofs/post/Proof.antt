@@ -1,9 +1,7 @@
 use Prim.Native.Nat.{_≤_, _<_}
-use mathlib.Core.Path.{_≡_, sym, ap, _∙_}
-use native.Mathlib.Omega.{arith}
+use mathlib.Core.Path.{sym, ap, _∙_}
 use borrow.Author.Needs.{needs}
 use Rattle.account.specs.Post.{posted}
-use Rattle.plain.specs.Plain.{answerOf, plainOf}
 use Rattle.plain.proofs.Posting.{plainBoth, posted-on, not-posted}
 use Rattle.plain.proofs.post.Statement.{statement}
 use Rattle.plain.proofs.post.Tie as tie
