@@ -18,7 +18,6 @@ pub struct Status {
 }
 
 // The newest final notice, and whether it lives on: no disconnection used it up and no event made it lapse.
-#[repr(C)]
 pub struct Notice {
     pub day: u32,
     pub live: bool,

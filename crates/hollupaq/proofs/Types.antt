@@ -1,11 +1,7 @@
 -- The plain types that the library's functions take and answer, as data with its laws (crates/lent/proofs/Data.antt).
 use mathlib.Core.Path.{_≡_, refl}
 use mathlib.Core.List.{[], _∷_}
-use mir.Syntax.{w8, tyInt}
-use mir.Val.{vint}
 use prog.Memory.{size}
-use denote.Builtin.{u8}
-use denote.Plain.{uint-tells, uint-makes, uint-lawful, uint-copy}
 use denote.Struct.Laws as structs
 use Rattle.plain.proofs.PlainAccount as account-type
 use Rattle.plain.proofs.PlainAccount.Laws as account-type′
@@ -58,18 +54,6 @@ answer-laws = record {
   parts = λ z v is. (structs.owed answer-type.the-type answer-type′.the-laws z (v ∷ []) is .0, structs.owed answer-type.the-type answer-type′.the-laws z (v ∷ []) is .1 .0);
   made = λ s t is-s is-t. structs.owes answer-type.the-type answer-type′.the-laws (record { accepted = s; number = t }) (is-s, (is-t, tt));
   whole = λ z. refl;
-}
-
--- a u8
-abbrev pub byte : Data
-byte = of-row u8 (tyInt w8) (vint w8)
-
-pub byte-laws : Laws byte
-byte-laws = record {
-  tells = uint-tells w8;
-  makes = λ 𝓤 H A W. uint-makes 𝓤 H A W w8;
-  lawful = λ 𝓤 H A W. uint-lawful 𝓤 H A W w8;
-  copy = λ 𝓤 H A W. uint-copy 𝓤 H A W w8;
 }
 
 -- what a posting answers and the account it leaves

@@ -6,7 +6,7 @@ use rules::Event;
 ghost use mathlib.Core.Path.{_≡_};
 ghost use lib.ListN.{getD};
 ghost use Rattle.account.specs.Questions.{owedBy, openBy, noItem};
-ghost use Rattle.plain.specs.Plain.{accountBy, plainFresh, PlainLeaves};
+ghost use Rattle.plain.specs.Plain.{serviceNumber, serviceBy, accountBy, plainFresh, PlainLeaves};
 ghost use Rattle.hollupaq.specs.Plain.{accountBytes};
 
 // How many bytes an account takes, so that a program can hold its header against the library.
@@ -14,7 +14,7 @@ ghost use Rattle.hollupaq.specs.Plain.{accountBytes};
 pub extern "C" fn hollupaq_account_bytes() -> u64
     ensures { λ r. ⌜ r ≡ accountBytes ⌝ }
 {
-    1_952
+    1_944
 }
 
 // No events, service on, all sums 0.
@@ -64,8 +64,8 @@ pub extern "C" fn hollupaq_required(a: &PlainAccount) -> u64
 
 // 0 on, 1 off, 2 closed.
 #[no_mangle]
-pub extern "C" fn hollupaq_service(a: &PlainAccount) -> u8
-    ensures { λ r. ⌜ r ≡ now (a .entry) .service ⌝ }
+pub extern "C" fn hollupaq_service(a: &PlainAccount) -> u32
+    ensures { λ r. ⌜ r ≡ serviceNumber (serviceBy (now (a .entry) .service)) ⌝ }
 {
     plain::service(*a)
 }

@@ -107,7 +107,7 @@ truth-laws = record {
   copy = λ 𝓤 H A W. enums.copy truth-type.the-type truth-type′.the-copy 𝓤 H A W;
 }
 
--- a u32
+-- a u32, as a day
 abbrev pub day : Data
 day = of-row u32 (tyInt w32) (vint w32)
 

@@ -1,10 +1,9 @@
 -- Demand 3 holds of every list posted on a plain account, and a refused event leaves any plain account as it was.
-use Prim.Native.Nat.{ℕ, _≤_}
+use Prim.Native.Nat.{ℕ}
 use mathlib.Core.Path.{_≡_, refl, sym, ap, _∙_}
 use mathlib.Core.Bool.{true, false, cond}
 use mathlib.Core.List.{List, [], _∷_, map}
-use lib.Dec.{eqb, leb}
-use borrow.Author.Tests.{leb-true, leb-false}
+use lib.Dec.{eqb}
 use native.Mathlib.Omega.{arith}
 use Rattle.basics.proofs.Cases.{on}
 use Rattle.rules.specs.declared.Event.{Event}
@@ -15,15 +14,15 @@ use Rattle.account.proofs.Demand.{demand-3}
 use Rattle.lent.specs.Left.{LeftBy}
 use Rattle.plain.specs.declared.PlainAccount.{PlainAccount}
 use Rattle.plain.specs.declared.PlainAnswer.{PlainAnswer}
-use Rattle.plain.specs.Plain.{plainOf, accountBy, answerOf, plainPosted, PlainLeaves, PlainClaim}
-use Rattle.plain.proofs.Posting.{plainBoth, posted-on, not-posted, service-small, account-trip, plain-trip}
+use Rattle.plain.specs.Plain.{plainOf, accountBy, plainFit, answerOf, plainPosted, PlainLeaves, PlainClaim}
+use Rattle.plain.proofs.Posting.{plainBoth, posted-on, not-posted, account-trip, plain-fit, plain-trip}
 
 no : true ≡ false → ⊥
 no h = omega (arith, ap {B = ℕ} (λ b. cond b 0 1) h)
 
 -- the plain form of an account is posted to as the account is
 posted-plain : (a : Account) (e : Event) → plainPosted (plainOf a) e ≡ plainBoth (posted a e)
-posted-plain a e = posted-on (plainOf a) e (service-small (a .collection .status .service)) ∙ ap (λ b. plainBoth (posted b e)) (account-trip a)
+posted-plain a e = posted-on (plainOf a) e (plain-fit a) ∙ ap (λ b. plainBoth (posted b e)) (account-trip a)
 
 -- what is left and answered is the plain form of what the same list by value gives
 pub as-by-value : (a : Account) (es : List Event) (said : List PlainAnswer) (z : PlainAccount) → LeftBy PlainLeaves (plainOf a) es said z
@@ -61,8 +60,7 @@ posted-same a e h = on (accountOk a) (λ q. rw q (judged-same a e (rw q at h))) 
 -- of any plain account, also one that no posting made
 pub refused-stays : (p : PlainAccount) (e : Event) → plainPosted p e .answer .accepted ≡ false → plainPosted p e .account ≡ p
 refused-stays p e h =
-    on (leb (p .service) 2)
-    (λ t. let l : p .service ≤ 2 = leb-true (p .service) 2 t in
-    let q = posted-on p e l in
-    ap (λ r. r .account) q ∙ (ap plainOf (posted-same (accountBy p) e (ap (λ r. r .answer .accepted) (sym q) ∙ h)) ∙ plain-trip p l))
-    (λ t. ap (λ r. r .account) (not-posted p e (leb-false (p .service) 2 t)))
+    on (plainFit p)
+    (λ t. let q = posted-on p e t in
+    ap (λ r. r .account) q ∙ (ap plainOf (posted-same (accountBy p) e (ap (λ r. r .answer .accepted) (sym q) ∙ h)) ∙ plain-trip p t))
+    (λ t. ap (λ r. r .account) (not-posted p e t))

@@ -1,9 +1,9 @@
 -- An account as plain numbers, and demand 3 of one that a program keeps and posts to.
 use Prim.Native.Nat.{ℕ, zero, suc}
 use mathlib.Core.Path.{_≡_}
-use mathlib.Core.Bool.{true, false, cond}
+use mathlib.Core.Bool.{Bool, true, false, cond, _&&_}
 use mathlib.Core.List.{List, map}
-use lib.Dec.{leb}
+use lib.Dec.{eqb, leb}
 use Rattle.rules.specs.declared.Event.{Event}
 use Rattle.rules.specs.declared.Answer.{Answer}
 use Rattle.rules.specs.declared.Answer.the-variants.{Accepted, Refused}
@@ -32,14 +32,15 @@ serviceBy (suc (suc n)) = Closed
 abbrev pub plainOf : Account → PlainAccount
 plainOf a = record {
   last = a .last;
+  notice = a .collection .notice .day;
   ledger = a .ledger;
   receipts = a .receipts;
   deposit = a .deposit;
-  service = serviceNumber (a .collection .status .service);
-  notice = a .collection .notice;
   calls = a .collection .calls;
   medical = a .medical;
   arrangement = a .arrangement;
+  service = serviceNumber (a .collection .status .service);
+  live = cond (a .collection .notice .live) 1 0;
 }
 
 abbrev pub accountBy : PlainAccount → Account
@@ -48,10 +49,14 @@ accountBy p = record {
   ledger = p .ledger;
   receipts = p .receipts;
   deposit = p .deposit;
-  collection = record { status = record { service = serviceBy (p .service) }; notice = p .notice; calls = p .calls };
+  collection = record { status = record { service = serviceBy (p .service) }; notice = record { day = p .notice; live = eqb (p .live) 1 }; calls = p .calls };
   medical = p .medical;
   arrangement = p .arrangement;
 }
+
+-- the two numbers are among those that an account has
+abbrev pub plainFit : PlainAccount → Bool
+plainFit p = leb (p .service) 2 && leb (p .live) 1
 
 -- the receipt, or the number of the refusal
 abbrev pub answerOf : Answer → PlainAnswer
@@ -64,12 +69,12 @@ plainFresh = plainOf fresh
 abbrev postedOn : PlainAccount → Event → PlainPosted
 postedOn p e = record { answer = answerOf (posted (accountBy p) e .answer); account = plainOf (posted (accountBy p) e .account) }
 
--- no account has such a service: refused with 0, a number that the table does not have, and unchanged
+-- no account has such numbers: refused with 0, a number that the table does not have, and unchanged
 abbrev notPosted : PlainAccount → PlainPosted
 notPosted p = record { answer = record { accepted = false; number = 0 }; account = p }
 
 unfoldable pub plainPosted : PlainAccount → Event → PlainPosted
-plainPosted p e = cond (leb (p .service) 2) (postedOn p e) (notPosted p)
+plainPosted p e = cond (plainFit p) (postedOn p e) (notPosted p)
 
 -- one posting on a plain account that is lent: it was p, s is the answer to e, and z is the account that is left
 abbrev pub PlainLeaves : PlainAccount → Event → PlainAnswer → PlainAccount → Type 0

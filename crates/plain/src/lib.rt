@@ -1,5 +1,5 @@
 // An account as plain numbers: the form in which a program in another language keeps one, since an enum has no form there.
-// It is the account part by part, but for the service, which is a number.
+// It is the account part by part, but for the service and whether a final notice lives on, which are numbers.
 mod questions;
 
 use account::Account;
@@ -16,7 +16,7 @@ use rules::Answer;
 use rules::Event;
 use rules::Service;
 ghost use mathlib.Core.Path.{_≡_};
-ghost use Rattle.plain.specs.Plain.{serviceNumber, serviceBy, plainOf, accountBy, answerOf, plainFresh, plainPosted};
+ghost use Rattle.plain.specs.Plain.{serviceNumber, serviceBy, plainOf, accountBy, plainFit, answerOf, plainFresh, plainPosted};
 pub use questions::held;
 pub use questions::open_count;
 pub use questions::open_item;
@@ -24,19 +24,23 @@ pub use questions::owed;
 pub use questions::required;
 pub use questions::service;
 
+// Whatever lies in its memory is a value of it: there is no bool among its fields, and no enum.
 #[repr(C)]
 pub struct PlainAccount {
     // the day of the last accepted event
     pub last: u32,
+    // the day of the newest final notice
+    pub notice: u32,
     pub ledger: Ledger,
     pub receipts: Receipts,
     pub deposit: Deposit,
-    // 0 on, 1 off, 2 closed
-    pub service: u8,
-    pub notice: Notice,
     pub calls: Calls,
     pub medical: Medical,
     pub arrangement: Arrangement,
+    // 0 on, 1 off, 2 closed
+    pub service: u32,
+    // 1 where the final notice lives on, else 0
+    pub live: u32,
 }
 
 // The answer to an event: the receipt of a payment, 0 of another event; or the number that refuses it.
@@ -52,7 +56,7 @@ pub struct PlainPosted {
     pub account: PlainAccount,
 }
 
-fn service_number(s: Service) -> u8
+pub fn service_number(s: Service) -> u32
     ensures { λ r. ⌜ r ≡ serviceNumber s ⌝ }
 {
     match s {
@@ -62,7 +66,7 @@ fn service_number(s: Service) -> u8
     }
 }
 
-fn service_by(n: u8) -> Service
+pub fn service_by(n: u32) -> Service
     ensures { λ r. ⌜ r ≡ serviceBy n ⌝ }
 {
     match n {
@@ -100,14 +104,15 @@ fn plain_of(a: Account) -> PlainAccount
     let arrangement = a.arrangement;
     PlainAccount {
         last: a.last,
+        notice: notice.day,
         ledger,
         receipts,
         deposit,
-        service: service_number(c.service()),
-        notice,
         calls,
         medical,
         arrangement,
+        service: service_number(c.service()),
+        live: basics::select32(notice.live, 1, 0),
     }
 }
 
@@ -119,7 +124,10 @@ pub fn account_by(p: PlainAccount) -> Account
     let deposit = p.deposit;
     let service = service_by(p.service);
     let status = Status { service };
-    let notice = p.notice;
+    let notice = Notice {
+        day: p.notice,
+        live: p.live == 1,
+    };
     let calls = p.calls;
     let collection = Collection {
         status,
@@ -139,18 +147,25 @@ pub fn account_by(p: PlainAccount) -> Account
     }
 }
 
+// Whether an account has such numbers.
+fn fits(p: PlainAccount) -> bool
+    ensures { λ r. ⌜ r ≡ plainFit p ⌝ }
+{
+    (p.service <= 2) & (p.live <= 1)
+}
+
 pub fn fresh() -> PlainAccount
     ensures { λ r. ⌜ r ≡ plainFresh ⌝ }
 {
     plain_of(Account::fresh())
 }
 
-// One event posted, on the account lent. A service that no account has is refused with 0, as an account that fails its test
-// is, and comes back as it was.
+// One event posted, on the account lent. Memory that no account has is refused with 0, as an account that fails its test is,
+// and comes back as it was.
 pub fn post(p: PlainAccount, e: Event) -> PlainPosted
     ensures { λ r. ⌜ r ≡ plainPosted p e ⌝ }
 {
-    if p.service <= 2 {
+    if fits(p) {
         let r = lent::post_through(account_by(p), e);
         let said = r.answer;
         let left = r.account;

@@ -1,11 +1,13 @@
 // What a plain account answers: each question is the one of the same name to the account.
 use crate::PlainAccount;
 use crate::account_by;
+use crate::service_by;
+use crate::service_number;
 use account::OpenItem;
 ghost use mathlib.Core.Path.{_≡_};
 ghost use lib.ListN.{getD};
 ghost use Rattle.account.specs.Questions.{owedBy, openBy, noItem};
-ghost use Rattle.plain.specs.Plain.{accountBy};
+ghost use Rattle.plain.specs.Plain.{serviceNumber, serviceBy, accountBy};
 
 // What is owed, negative where there is credit.
 pub fn owed(p: PlainAccount) -> i64
@@ -32,10 +34,10 @@ pub fn required(p: PlainAccount) -> u64
 }
 
 // 0 on, 1 off, 2 closed.
-pub fn service(p: PlainAccount) -> u8
-    ensures { λ r. ⌜ r ≡ p .service ⌝ }
+pub fn service(p: PlainAccount) -> u32
+    ensures { λ r. ⌜ r ≡ serviceNumber (serviceBy (p .service)) ⌝ }
 {
-    p.service
+    service_number(service_by(p.service))
 }
 
 // How many items are open.
