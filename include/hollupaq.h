@@ -1,11 +1,13 @@
 /*
- * Hollupaq: the standing of utility accounts, from a book file in memory.
+ * Hollupaq: the standing of utility accounts, from a book file in memory, or of
+ * an account that the caller keeps and posts to, one event at a time.
  *
  * The functions are those of the proved core in libhollupaq.a. They keep no
- * state and no pointer, allocate nothing, and take any bytes: a book that is
- * not in order is refused by a number. They may run in several threads at
+ * state and no pointer and allocate nothing: a book lies in the caller's
+ * memory, and so does an account. A book may be any bytes; one that is not in
+ * order is refused by a number. The functions may run in several threads at
  * once, as long as no two of them write to the same memory, and none writes to
- * a book that another reads.
+ * a book or an account that another reads.
  *
  * The book and the memory for output of one call must not overlap, nor two
  * pieces of memory for output. No pointer may be null, not even where its
@@ -14,6 +16,7 @@
 #ifndef HOLLUPAQ_H
 #define HOLLUPAQ_H
 
+#include <stdbool.h>
 #include <stddef.h>
 #include <stdint.h>
 
@@ -64,6 +67,103 @@ uint64_t hollupaq_report(const uint8_t *book, size_t book_len,
 uint8_t hollupaq_history(const uint8_t *book, size_t book_len, size_t account,
                          uint8_t *numbers, size_t numbers_len,
                          int64_t *owed, size_t owed_len);
+
+/* How many words of 64 bits an account takes. */
+#define HOLLUPAQ_ACCOUNT_WORDS 243
+
+/*
+ * An account, in the caller's memory. Only hollupaq_fresh makes one, and only
+ * hollupaq_post changes it: what the words hold is the library's own business,
+ * and nobody else writes into them. Other words do no harm, but what is said
+ * of them means nothing. There is no pointer in it, so that it may be copied
+ * as plain memory: by assignment, with memcpy, or into a file from which the
+ * same version of the library reads it back on the same kind of machine. Some
+ * of its bytes hold nothing and may be anything: equal accounts may differ in
+ * them. Two threads may not post to the same account at once, nor may one ask
+ * it something while another posts to it.
+ */
+typedef struct {
+    uint64_t words[HOLLUPAQ_ACCOUNT_WORDS];
+} hollupaq_account;
+
+/* The kinds of events. A field of which a kind says nothing has to be 0. */
+enum {
+    HOLLUPAQ_BILL = 1,          /* amount in cents */
+    HOLLUPAQ_PAYMENT = 2,       /* amount in cents */
+    HOLLUPAQ_RETURNED = 3,      /* amount: the receipt of the payment */
+    HOLLUPAQ_FEE = 4,           /* option: the number of the fee, 1 to 3 */
+    HOLLUPAQ_DEPOSIT_ASKED = 5, /* amount in cents */
+    HOLLUPAQ_DEPOSIT_PAID = 6,  /* amount in cents */
+    HOLLUPAQ_DEPOSIT_MOVED = 7,
+    HOLLUPAQ_PAYOUT = 8,        /* amount in cents */
+    HOLLUPAQ_CERTIFICATE = 9,   /* amount: its days, 1 to 180 */
+    HOLLUPAQ_APPROVAL = 10,     /* amount: its days, 1 to 30 */
+    HOLLUPAQ_ARRANGEMENT = 11,  /* option: its parts, 2 to 6 */
+    HOLLUPAQ_NOTICE = 12,
+    HOLLUPAQ_CALL = 13,
+    HOLLUPAQ_CUT = 14,
+    HOLLUPAQ_RECONNECTION = 15, /* option: 0 in hours, 1 after hours */
+    HOLLUPAQ_CLOSE = 16
+};
+
+/* One event. Day 0 is 1 January 2000. */
+typedef struct {
+    uint8_t kind;
+    uint8_t option;
+    uint32_t day;
+    uint64_t amount;
+} hollupaq_event;
+
+/*
+ * The answer to an event. Accepted: the number is the receipt of a payment
+ * (1, 2, ..), and 0 for any other event. Refused: it is the number (1 to 19)
+ * of the rule that refuses the event, or 0 where the memory shows that it is
+ * not an account that the library made; not all such memory shows it.
+ */
+typedef struct {
+    bool accepted;
+    uint64_t number;
+} hollupaq_answer;
+
+/* A charge that is not paid in full: its day, and the cents still unpaid. */
+typedef struct {
+    uint32_t day;
+    uint64_t unpaid;
+} hollupaq_open_item;
+
+/*
+ * How many bytes an account of the library has. Where this is not
+ * sizeof(hollupaq_account), the header and the library do not belong together,
+ * and no account may be lent.
+ */
+uint64_t hollupaq_account_bytes(void);
+
+/* An account without events: service on, all sums 0. */
+hollupaq_account hollupaq_fresh(void);
+
+/*
+ * Posts one event, of any kind and any numbers. A refused event leaves the
+ * account as it was.
+ */
+hollupaq_answer hollupaq_post(hollupaq_account *account, hollupaq_event event);
+
+/* What is owed in cents, negative where there is credit. */
+int64_t hollupaq_owed(const hollupaq_account *account);
+
+/* The deposit held, and the deposit required, in cents. */
+uint64_t hollupaq_held(const hollupaq_account *account);
+uint64_t hollupaq_required(const hollupaq_account *account);
+
+/* Service: 0 on, 1 off, 2 closed. */
+uint32_t hollupaq_service(const hollupaq_account *account);
+
+/*
+ * How many items are open, and one of them, counted from 0 in the order
+ * posted. Past the last one, day and unpaid are 0.
+ */
+uint64_t hollupaq_open_count(const hollupaq_account *account);
+hollupaq_open_item hollupaq_open_item_at(const hollupaq_account *account,
+                                         size_t index);
 
 #ifdef __cplusplus
 }
