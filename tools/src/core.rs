@@ -1,5 +1,8 @@
 //! The proved core, called through its static library (`rt staticlib hollupaq`).
+mod account;
+
 use crate::book;
+pub use account::{account_bytes, Account, Answer, OpenItem, ACCOUNT_WORDS};
 
 extern "C" {
     // A slice of the core passes as its pointer and its length.

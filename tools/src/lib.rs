@@ -1,4 +1,5 @@
-//! What the tools, the tests and the benchmark share: events, the book file, its readable text, and the proved core.
+//! What the tools, the tests and the benchmark share: events, service, the book file, its readable text, and the proved
+//! core.
 
 pub mod book;
 pub mod command;
@@ -7,6 +8,7 @@ pub mod event;
 pub mod files;
 pub mod hints;
 pub mod kinds;
+pub mod service;
 pub mod story;
 pub mod text;
 pub mod words;

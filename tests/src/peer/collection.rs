@@ -1,28 +1,11 @@
 //! Service, final notices and calls.
 use super::kind::*;
 use super::money::Money;
-use std::fmt;
 use tools::event::Event;
+pub use tools::service::Service;
 
 /// A final notice or a cut wants arrears of at least so much.
 pub const ARREARS: i64 = 5_000;
-
-#[derive(Clone, Copy, Debug, PartialEq, Eq)]
-pub enum Service {
-    On,
-    Off,
-    Closed,
-}
-
-impl fmt::Display for Service {
-    fn fmt(&self, out: &mut fmt::Formatter) -> fmt::Result {
-        out.write_str(match self {
-            Service::On => "on",
-            Service::Off => "off",
-            Service::Closed => "closed",
-        })
-    }
-}
 
 /// Service is as the last event that sets it says.
 pub fn service(accepted: &[Event]) -> Service {
