@@ -1,6 +1,7 @@
 //! The core by its static library against the peer, book by book.
+use crate::books::Book;
 use crate::peer::money::Money;
-use crate::peer::{self, post_all};
+use crate::peer::{self, post_all, Posted};
 use crate::{show, shrink};
 use tools::core;
 use tools::event::Event;
@@ -83,8 +84,7 @@ pub fn compare_lent(book: &[u8], expected: &[u8], lent: Lent) -> Option<String> 
 }
 
 /// The number and what is owed after it, for each event.
-fn replies(events: &[Event]) -> Vec<(u8, i64)> {
-    let posted = post_all(events);
+fn replies(posted: &Posted) -> Vec<(u8, i64)> {
     let money = Money::of(&posted.accepted);
     let mut accepted = 0;
     let owed = |&number: &u8| {
@@ -101,20 +101,20 @@ fn core_replies(book: &[u8], account: usize) -> Result<Vec<(u8, i64)>, u8> {
 }
 
 /// An account of a good book whose answers differ somewhere, shrunk.
-pub fn compare_history(list: &[Vec<Event>], account: usize) -> Option<String> {
-    let book = tools::book::encode(list);
-    if core_replies(&book, account) == Ok(replies(&list[account])) {
+pub fn compare_history(book: &Book, account: usize) -> Option<String> {
+    let expected = replies(&book.histories[account].posted);
+    if core_replies(&book.bytes, account) == Ok(expected) {
         return None;
     }
     let alone = |list: &[Vec<Event>]| {
         let book = tools::book::encode(list);
-        (0..list.len()).any(|at| core_replies(&book, at) != Ok(replies(&list[at])))
+        (0..list.len()).any(|at| core_replies(&book, at) != Ok(replies(&post_all(&list[at]))))
     };
-    let small = shrink::list(list.to_vec(), TRY, &alone);
+    let small = shrink::list(book.list(), TRY, &alone);
     let mut text = show::accounts(&small);
     for (at, events) in small.iter().enumerate() {
         let found = core_replies(&tools::book::encode(&small), at);
-        let expected = replies(events);
+        let expected = replies(&post_all(events));
         text += &format!("  account {at}, numbers with what is owed\n");
         text += &format!("    expected: {expected:?}\n    found: {found:?}\n");
     }

@@ -148,9 +148,8 @@ impl ByLibrary {
     }
 
     fn replies(&mut self, book: &Book) {
-        let list = book.list();
-        for account in 0..list.len() {
-            let history = || library::compare_history(&list, account);
+        for account in 0..book.histories.len() {
+            let history = || library::compare_history(book, account);
             self.histories.try_one(history);
         }
     }

@@ -25,8 +25,10 @@ pub struct Money {
 
 impl Money {
     pub fn of(accepted: &[Event]) -> Money {
-        let mut items: Vec<Item> = Vec::new();
-        let mut credits = vec![0];
+        // Made for every event that is asked about: with room from the start, most of the time is not for moving them.
+        let mut items: Vec<Item> = Vec::with_capacity(accepted.len());
+        let mut credits = Vec::with_capacity(accepted.len() + 1);
+        credits.push(0);
         let mut total = 0;
         for (at, &event) in accepted.iter().enumerate() {
             let before = &accepted[..at];
