@@ -6,6 +6,7 @@ pub mod coverage;
 pub mod damage;
 pub mod edges;
 pub mod generator;
+pub mod kept;
 pub mod library;
 pub mod make;
 pub mod peer;

@@ -34,3 +34,30 @@ impl Tally {
         self.failed == 0
     }
 }
+
+/// How often something was tried, and what spoke against it.
+#[derive(Default)]
+pub struct Group {
+    tried: usize,
+    against: Vec<String>,
+}
+
+impl Group {
+    /// Tries once more, unless it failed so often already that more would only take time.
+    pub fn try_one(&mut self, difference: impl FnOnce() -> Option<String>) {
+        if self.against.len() < SHOWN {
+            self.tried += 1;
+            self.against.extend(difference());
+        }
+    }
+
+    /// Something that was never tried has not passed.
+    pub fn tell(&self, tally: &mut Tally, what: &str) {
+        let name = format!("{} {what}", show::count(self.tried));
+        if self.tried == 0 {
+            tally.check(&name, &[String::from("  never tried")]);
+        } else {
+            tally.check(&name, &self.against);
+        }
+    }
+}

@@ -8,12 +8,12 @@ use std::process::ExitCode;
 use tests::books::{self, Book};
 use tests::coverage::Coverage;
 use tests::damage;
+use tests::kept;
 use tests::library::{self, Lent};
 use tests::peer;
 use tests::program::{self, Feed};
 use tests::random::Random;
-use tests::show::count;
-use tests::tally::Tally;
+use tests::tally::{Group, Tally};
 
 struct Wanted {
     program: PathBuf,
@@ -75,33 +75,7 @@ struct ByLibrary {
     exact: Group,
     longer: Group,
     shorter: Group,
-}
-
-/// How often something was tried, and what spoke against it.
-#[derive(Default)]
-struct Group {
-    tried: usize,
-    against: Vec<String>,
-}
-
-impl Group {
-    /// Tries once more, unless it failed so often already that more would only take time.
-    fn try_one(&mut self, difference: impl FnOnce() -> Option<String>) {
-        if self.against.len() < 3 {
-            self.tried += 1;
-            self.against.extend(difference());
-        }
-    }
-
-    /// Something that was never tried has not passed.
-    fn tell(&self, tally: &mut Tally, what: &str) {
-        let name = format!("{} {what}", count(self.tried));
-        if self.tried == 0 {
-            tally.check(&name, &[String::from("  never tried")]);
-        } else {
-            tally.check(&name, &self.against);
-        }
-    }
+    kept: kept::Accounts,
 }
 
 fn by_library(wanted: &Wanted) -> ByLibrary {
@@ -129,6 +103,7 @@ fn by_library(wanted: &Wanted) -> ByLibrary {
         if index % 16 == 0 {
             all.beginnings(&book);
         }
+        all.kept.book(index, &book);
     }
     all
 }
@@ -182,6 +157,7 @@ impl ByLibrary {
             .tell(tally, "texts in longer memory, the tail as it was");
         self.shorter
             .tell(tally, "texts refused in shorter memory, all as it was");
+        self.kept.tell(tally);
     }
 }
 

@@ -67,9 +67,14 @@ impl Money {
 
     /// Day and unpaid part of the open items, in the order posted.
     pub fn open_items(&self) -> Vec<(u32, i64)> {
-        let after = self.credits.len() - 1;
+        self.open_items_after(self.credits.len() - 1)
+    }
+
+    /// The same after the first `after` events.
+    pub fn open_items_after(&self, after: usize) -> Vec<(u32, i64)> {
         self.items
             .iter()
+            .filter(|item| item.event < after)
             .map(|item| (item.day, self.unpaid(item, after)))
             .filter(|&(_, unpaid)| unpaid > 0)
             .collect()

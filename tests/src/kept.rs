@@ -1,0 +1,74 @@
+//! Accounts that the caller keeps and posts to one event at a time: each history of each book, against the peer.
+mod against;
+mod bytes;
+mod posting;
+mod told;
+
+use crate::books::Book;
+use crate::generator::History;
+use crate::tally::{Group, Tally};
+use against::Check;
+use posting::{keep, Asked};
+
+/// In every such book the account is asked for everything after each event.
+const SHARE: u64 = 16;
+
+/// What kept accounts showed.
+#[derive(Default)]
+pub struct Accounts {
+    answers: Group,
+    at_the_end: Group,
+    after_each: Group,
+    by_value: Group,
+    refused: Group,
+    around: Group,
+}
+
+impl Accounts {
+    /// The histories of a book, whatever was damaged in its bytes: an account takes any kind and any numbers.
+    pub fn book(&mut self, index: u64, book: &Book) {
+        let (often, good) = (index.is_multiple_of(SHARE), book.is_good());
+        for history in &book.histories {
+            self.history(history, often, good);
+        }
+    }
+
+    fn history(&mut self, history: &History, often: bool, good: bool) {
+        let (asked, told) = if often {
+            (Asked::AfterEach, &mut self.after_each)
+        } else {
+            (Asked::AtTheEnd, &mut self.at_the_end)
+        };
+        let kept = keep(&history.events, asked);
+        let compare = |check: Check| against::compare(history, &kept, check);
+        self.answers.try_one(|| compare(against::answers));
+        told.try_one(|| compare(against::told));
+        self.refused.try_one(|| compare(against::refused));
+        self.around.try_one(|| compare(against::around));
+        // A book with an unknown kind has no history.
+        if good {
+            self.by_value.try_one(|| compare(against::by_value));
+        }
+    }
+
+    pub fn tell(&self, tally: &mut Tally) {
+        self.answers.tell(
+            tally,
+            "kept accounts, each answer with its number or receipt and what is owed after it",
+        );
+        self.at_the_end.tell(
+            tally,
+            "kept accounts, deposit, service and open items at the end",
+        );
+        self.after_each.tell(
+            tally,
+            "kept accounts, deposit, service and open items after each event",
+        );
+        self.by_value
+            .tell(tally, "accounts posted on lent memory as by value");
+        self.refused
+            .tell(tally, "kept accounts, as they were after a refused event");
+        self.around
+            .tell(tally, "kept accounts, the memory around them as it was");
+    }
+}

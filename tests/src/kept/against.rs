@@ -1,0 +1,160 @@
+//! What speaks against a kept account.
+use super::posting::{keep, Asked, Kept};
+use super::told::Told;
+use crate::generator::History;
+use crate::peer::kind::PAYMENT;
+use crate::peer::money::Money;
+use crate::peer::{post_all, receipts, Posted};
+use crate::{show, shrink};
+use std::fmt::Debug;
+use tools::core::{self, Answer};
+use tools::event::Event;
+
+/// What posting costs beside its events, in the units of the shrinking.
+const TRY: u64 = 10_000;
+
+/// Words for what is wrong with the posting of a history, by what the peer says of it or by itself.
+pub type Check = fn(&[Event], &Posted, &Kept) -> Option<String>;
+
+/// A history that a check speaks against, shrunk; nothing where it doesn't.
+pub fn compare(history: &History, kept: &Kept, check: Check) -> Option<String> {
+    check(&history.events, &history.posted, kept)?;
+    let again = |events: &Vec<Event>| check(events, &post_all(events), &keep(events, kept.asked));
+    let differs = |list: &[Vec<Event>]| list.iter().any(|events| again(events).is_some());
+    let small = shrink::list(vec![history.events.clone()], TRY, &differs);
+    let words: String = small.iter().filter_map(again).collect();
+    Some(show::accounts(&small) + &words)
+}
+
+fn unequal<T: PartialEq + Debug>(what: &str, expected: T, found: T) -> Option<String> {
+    (expected != found)
+        .then(|| format!("  {what}\n    expected: {expected:?}\n    found: {found:?}\n"))
+}
+
+/// Each answer with its number or receipt, and what is owed after it.
+pub fn answers(events: &[Event], posted: &Posted, kept: &Kept) -> Option<String> {
+    let money = Money::of(&posted.accepted);
+    let mut accepted = 0;
+    let reply = |(event, &number): (&Event, &u8)| {
+        accepted += usize::from(number == 0);
+        let answer = match number {
+            0 if event.kind == PAYMENT => {
+                Answer::Accepted(receipts::payments(&posted.accepted[..accepted]))
+            }
+            0 => Answer::Accepted(0),
+            _ => Answer::Refused(number),
+        };
+        (answer, money.owed_after(accepted))
+    };
+    let expected: Vec<(Answer, i64)> = events.iter().zip(&posted.answers).map(reply).collect();
+    unequal("answers with what is owed", &expected, &kept.replies)
+}
+
+/// What the account tells: owed, deposit, service and open items.
+pub fn told(_: &[Event], posted: &Posted, kept: &Kept) -> Option<String> {
+    let money = Money::of(&posted.accepted);
+    let mut accepted = 0;
+    let mut expected = Vec::new();
+    for (at, &number) in posted.answers.iter().enumerate() {
+        accepted += usize::from(number == 0);
+        if kept.asked == Asked::AfterEach || at + 1 == posted.answers.len() {
+            expected.push(Told::by_peer(&posted.accepted, &money, accepted));
+        }
+    }
+    unequal("what the account tells", &expected, &kept.told)
+}
+
+/// The same numbers, and the same owed, as where each event takes the account by value and hands it back.
+pub fn by_value(events: &[Event], _: &Posted, kept: &Kept) -> Option<String> {
+    let book = tools::book::encode(&[events.to_vec()]);
+    let by_value = core::history(&book, 0);
+    let by_value = by_value.map(|replies| replies.iter().map(|r| (r.number, r.owed)).collect());
+    let number = |&(answer, owed): &(Answer, i64)| match answer {
+        Answer::Accepted(_) => (0, owed),
+        Answer::Refused(number) => (number, owed),
+    };
+    let lent: Vec<(u8, i64)> = kept.replies.iter().map(number).collect();
+    unequal(
+        "numbers with what is owed, by value and lent",
+        by_value,
+        Ok(lent),
+    )
+}
+
+/// A refused event leaves the account as it was.
+pub fn refused(_: &[Event], _: &Posted, kept: &Kept) -> Option<String> {
+    let (event, bytes) = kept.changed.as_ref()?;
+    Some(format!(
+        "  event {event}, counted from 0, is refused and changes the bytes {bytes:?}\n"
+    ))
+}
+
+/// Nothing before or behind the account is touched.
+pub fn around(_: &[Event], _: &Posted, kept: &Kept) -> Option<String> {
+    let words = "  the memory before or behind the account is not as it was\n";
+    kept.is_touched_around.then(|| words.to_string())
+}
+
+#[cfg(test)]
+mod tests {
+    use super::*;
+    use crate::make::{bill, cut, payment};
+
+    const CHECKS: [(&str, Check); 5] = [
+        ("answers", answers),
+        ("told", told),
+        ("by value", by_value),
+        ("refused", refused),
+        ("around", around),
+    ];
+
+    /// Which checks speak against the worked example, after something was made wrong in what the peer or the account
+    /// said of it.
+    fn speak(wrong: fn(&mut Posted, &mut Kept)) -> Vec<&'static str> {
+        let events = [
+            bill(100, 10_000),
+            bill(130, 5_000),
+            payment(131, 4_000),
+            cut(131),
+        ];
+        let mut posted = post_all(&events);
+        let mut kept = keep(&events, Asked::AfterEach);
+        wrong(&mut posted, &mut kept);
+        let speaks = |(_, check): &&(&str, Check)| check(&events, &posted, &kept).is_some();
+        CHECKS
+            .iter()
+            .filter(speaks)
+            .map(|(name, _)| *name)
+            .collect()
+    }
+
+    #[test]
+    fn nothing_speaks_against_what_is_right() {
+        assert_eq!(speak(|_, _| {}), [""; 0]);
+    }
+
+    #[test]
+    fn a_wrong_answer_is_seen() {
+        assert_eq!(speak(|posted, _| posted.answers[3] = 13), ["answers"]);
+        let receipt = |_: &mut Posted, kept: &mut Kept| kept.replies[2].0 = Answer::Accepted(2);
+        assert_eq!(speak(receipt), ["answers"]);
+        let owed = |_: &mut Posted, kept: &mut Kept| kept.replies[1].1 -= 75;
+        assert_eq!(speak(owed), ["answers", "by value"]);
+    }
+
+    #[test]
+    fn a_wrong_standing_is_seen() {
+        // The same sums, but items of other days.
+        assert_eq!(speak(|posted, _| posted.accepted[0].day = 99), ["told"]);
+        assert_eq!(speak(|_, kept| kept.told.swap(0, 1)), ["told"]);
+        let once = |_: &mut Posted, kept: &mut Kept| kept.told.truncate(1);
+        assert_eq!(speak(once), ["told"]);
+    }
+
+    #[test]
+    fn changed_memory_is_seen() {
+        let changed = |_: &mut Posted, kept: &mut Kept| kept.changed = Some((3, vec![8]));
+        assert_eq!(speak(changed), ["refused"]);
+        assert_eq!(speak(|_, kept| kept.is_touched_around = true), ["around"]);
+    }
+}

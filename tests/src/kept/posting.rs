@@ -1,0 +1,111 @@
+//! A history posted to an account that the caller keeps.
+use super::bytes;
+use super::told::Told;
+use std::hint::black_box;
+use tools::core::{Account, Answer};
+use tools::event::Event;
+
+/// What lies before and behind the account.
+const AROUND: [u64; 8] = [0xa55a_c33c_a55a_c33c; 8];
+
+/// An account in memory of which the core may touch nothing else.
+#[repr(C)]
+pub struct Surrounded {
+    before: [u64; 8],
+    pub account: Account,
+    behind: [u64; 8],
+}
+
+impl Surrounded {
+    pub fn by(account: Account) -> Surrounded {
+        Surrounded {
+            before: AROUND,
+            account,
+            behind: AROUND,
+        }
+    }
+
+    pub fn is_untouched_around(&self) -> bool {
+        // The account alone was lent: it must not be taken for granted that nothing else changed.
+        let memory = black_box(self);
+        memory.before == AROUND && memory.behind == AROUND
+    }
+}
+
+/// When an account is asked what it tells; what is owed it is asked after each event anyway.
+#[derive(Clone, Copy, Debug, PartialEq, Eq)]
+pub enum Asked {
+    AfterEach,
+    AtTheEnd,
+}
+
+/// What a kept account showed.
+#[derive(Debug)]
+pub struct Kept {
+    /// The answer to each event, and what was owed after it.
+    pub replies: Vec<(Answer, i64)>,
+    pub asked: Asked,
+    pub told: Vec<Told>,
+    /// The first refused event that changed the account, counted from 0, and the bytes that it changed.
+    pub changed: Option<(usize, Vec<usize>)>,
+    pub is_touched_around: bool,
+}
+
+pub fn keep(events: &[Event], asked: Asked) -> Kept {
+    let mut memory = Surrounded::by(Account::fresh());
+    let mut kept = Kept {
+        replies: Vec::with_capacity(events.len()),
+        asked,
+        told: Vec::new(),
+        changed: None,
+        is_touched_around: false,
+    };
+    for (at, &event) in events.iter().enumerate() {
+        let before = memory.account.clone();
+        let answer = memory.account.post(event);
+        let account = &memory.account;
+        kept.replies.push((answer, account.owed()));
+        if matches!(answer, Answer::Refused(_)) && kept.changed.is_none() {
+            let differing = bytes::differing(&before, account);
+            kept.changed = (!differing.is_empty()).then_some((at, differing));
+        }
+        if asked == Asked::AfterEach || at + 1 == events.len() {
+            kept.told.push(Told::by_account(account));
+        }
+    }
+    kept.is_touched_around = !memory.is_untouched_around();
+    kept
+}
+
+#[cfg(test)]
+mod tests {
+    use super::*;
+    use crate::make::{bill, cut, payment};
+
+    #[test]
+    fn a_word_touched_before_or_behind_is_seen() {
+        let mut memory = Surrounded::by(Account::fresh());
+        assert!(memory.is_untouched_around());
+        memory.before[7] += 1;
+        assert!(!memory.is_untouched_around());
+        let mut memory = Surrounded::by(Account::fresh());
+        memory.behind[0] += 1;
+        assert!(!memory.is_untouched_around());
+    }
+
+    #[test]
+    fn an_account_is_asked_after_each_event_or_at_the_end() {
+        let events = [bill(100, 10_000), payment(101, 4_000), cut(101)];
+        let each = keep(&events, Asked::AfterEach);
+        let end = keep(&events, Asked::AtTheEnd);
+        let expected = [
+            (Answer::Accepted(0), 10_000),
+            (Answer::Accepted(1), 6_000),
+            (Answer::Refused(10), 6_000),
+        ];
+        assert_eq!(each.replies, expected);
+        assert_eq!(end.replies, expected);
+        assert_eq!(each.told.len(), 3);
+        assert_eq!(end.told, each.told[2..]);
+    }
+}

@@ -1,0 +1,51 @@
+//! What an account tells when it is asked, by itself and by the peer.
+use crate::peer::collection::service;
+use crate::peer::deposit::{held, required};
+use crate::peer::money::Money;
+use tools::core::Account;
+use tools::event::Event;
+use tools::service::Service;
+
+/// More items than an account has, so that an odd count is not followed to its end.
+const ENOUGH: usize = 100;
+
+#[derive(Clone, Debug, PartialEq, Eq)]
+pub struct Told {
+    owed: i64,
+    held: i64,
+    required: i64,
+    service: Service,
+    /// Day and unpaid part of the open items, and of the one past the last.
+    open: Vec<(u32, i64)>,
+}
+
+impl Told {
+    pub fn by_account(account: &Account) -> Told {
+        let item = |index| {
+            let item = account.open_item(index);
+            (item.day, item.unpaid as i64)
+        };
+        let places = 0..=account.open_count() as usize;
+        Told {
+            owed: account.owed(),
+            held: account.held() as i64,
+            required: account.required() as i64,
+            service: account.service(),
+            open: places.take(ENOUGH).map(item).collect(),
+        }
+    }
+
+    /// After the first `after` of the accepted events.
+    pub fn by_peer(accepted: &[Event], money: &Money, after: usize) -> Told {
+        let accepted = &accepted[..after];
+        let mut open = money.open_items_after(after);
+        open.push((0, 0));
+        Told {
+            owed: money.owed_after(after),
+            held: held(accepted),
+            required: required(accepted),
+            service: service(accepted),
+            open,
+        }
+    }
+}
