@@ -3,14 +3,16 @@ mod against;
 mod bytes;
 mod posting;
 mod told;
+mod turned;
 
 use crate::books::Book;
 use crate::generator::History;
+use crate::random::Random;
 use crate::tally::{Group, Tally};
 use against::Check;
 use posting::{keep, Asked};
 
-/// In every such book the account is asked for everything after each event.
+/// In every such book the account is asked for everything after each event, and bits of it are turned.
 const SHARE: u64 = 16;
 
 /// What kept accounts showed.
@@ -22,14 +24,22 @@ pub struct Accounts {
     by_value: Group,
     refused: Group,
     around: Group,
+    turned: Group,
+    /// How many accounts with turned bits the core saw to be none of its own, and how many not.
+    seen: usize,
+    unseen: usize,
 }
 
 impl Accounts {
     /// The histories of a book, whatever was damaged in its bytes: an account takes any kind and any numbers.
-    pub fn book(&mut self, index: u64, book: &Book) {
+    pub fn book(&mut self, seed: u64, index: u64, book: &Book) {
+        let mut random = Random::new(seed.wrapping_add(index));
         let (often, good) = (index.is_multiple_of(SHARE), book.is_good());
         for history in &book.histories {
             self.history(history, often, good);
+            if often {
+                self.turn(history, &mut random);
+            }
         }
     }
 
@@ -51,6 +61,13 @@ impl Accounts {
         }
     }
 
+    fn turn(&mut self, history: &History, random: &mut Random) {
+        let outcome = turned::compare(history, random);
+        self.seen += usize::from(outcome == Ok(true));
+        self.unseen += usize::from(outcome == Ok(false));
+        self.turned.try_one(|| outcome.err());
+    }
+
     pub fn tell(&self, tally: &mut Tally) {
         self.answers.tell(
             tally,
@@ -70,5 +87,21 @@ impl Accounts {
             .tell(tally, "kept accounts, as they were after a refused event");
         self.around
             .tell(tally, "kept accounts, the memory around them as it was");
+        self.turned
+            .tell(tally, "kept accounts with bits turned, answered or refused");
+        let missing = self.not_reached();
+        tally.check(
+            "reached: turned bits that the core sees, and some that it can't",
+            &missing,
+        );
+    }
+
+    fn not_reached(&self) -> Vec<String> {
+        let wanted = [
+            (self.seen, "  no turned bits were seen"),
+            (self.unseen, "  all turned bits were seen"),
+        ];
+        let missing = wanted.iter().filter(|(count, _)| *count == 0);
+        missing.map(|(_, words)| words.to_string()).collect()
     }
 }

@@ -103,7 +103,7 @@ fn by_library(wanted: &Wanted) -> ByLibrary {
         if index % 16 == 0 {
             all.beginnings(&book);
         }
-        all.kept.book(index, &book);
+        all.kept.book(wanted.seed, index, &book);
     }
     all
 }
