@@ -78,9 +78,10 @@ uint8_t hollupaq_history(const uint8_t *book, size_t book_len, size_t account,
  * of them means nothing. There is no pointer in it, so that it may be copied
  * as plain memory: by assignment, with memcpy, or into a file from which the
  * same version of the library reads it back on the same kind of machine. Some
- * of its bytes hold nothing and may be anything: equal accounts may differ in
- * them. Two threads may not post to the same account at once, nor may one ask
- * it something while another posts to it.
+ * of its bytes hold nothing and may be anything, also what lay in the caller's
+ * memory before: equal accounts may differ in them. Two threads may not post
+ * to the same account at once, nor may one ask it something while another
+ * posts to it.
  */
 typedef struct {
     uint64_t words[HOLLUPAQ_ACCOUNT_WORDS];
@@ -142,8 +143,8 @@ uint64_t hollupaq_account_bytes(void);
 hollupaq_account hollupaq_fresh(void);
 
 /*
- * Posts one event, of any kind and any numbers. A refused event leaves the
- * account as it was.
+ * Posts one event, of any kind and any numbers. A refused event leaves every
+ * byte of the account as it was.
  */
 hollupaq_answer hollupaq_post(hollupaq_account *account, hollupaq_event event);
 

@@ -38,6 +38,9 @@ fn run() -> Result<(), String> {
     show("one account", &one)?;
     let times = show("60 accounts", &many)?;
     show("one account, 64 items open", &full)?;
+    println!("\nPosting one event at a time on a kept account: to the same events of a book, answers and owed");
+    kept("one account", &one[0])?;
+    kept("one account, 64 items open", &full[0])?;
     println!("\nTime of an event as one account grows, to that of 500 events");
     growth("years of events", books::years)?;
     growth("64 items open", books::full_house)?;
@@ -94,6 +97,48 @@ fn show(name: &str, list: &[Vec<Event>]) -> Result<Times, String> {
         each(times.in_place),
     );
     Ok(times)
+}
+
+/// An account in the caller's memory against the history of a book, which posts by value and tells the same. What is owed
+/// has to be equal at the end before anything is timed.
+fn kept(name: &str, events: &[Event]) -> Result<(), String> {
+    let book = book::encode(&[events.to_vec()]);
+    let (mut numbers, mut owed) = (vec![0; events.len()], vec![0; events.len()]);
+    core::history_into(&book, 0, &mut numbers, &mut owed).map_err(|n| format!("refused {n}"))?;
+    if owed.last() != Some(&post_each(events)) {
+        return Err("a kept account owes something else than by value".to_string());
+    }
+    let mut tasks: [clock::Task; 2] = [
+        Box::new(|| {
+            black_box(post_each(black_box(events)));
+        }),
+        Box::new(|| {
+            black_box(core::history_into(
+                black_box(&book),
+                0,
+                &mut numbers,
+                &mut owed,
+            ))
+            .ok();
+        }),
+    ];
+    let times = clock::medians(&mut tasks, clock::SAMPLES);
+    let each = |time: f64| time * 1e9 / events.len() as f64;
+    let (kept, by_value) = (each(times[0]), each(times[1]));
+    let ratio = kept / by_value;
+    println!("  {name:<28} {ratio:6.2}   (an event {kept:.1} to {by_value:.1} ns)");
+    Ok(())
+}
+
+/// What is owed after the events, asked after each.
+fn post_each(events: &[Event]) -> i64 {
+    let mut account = core::Account::fresh();
+    let mut owed = 0;
+    for &event in events {
+        black_box(account.post(event));
+        owed = account.owed();
+    }
+    owed
 }
 
 /// Each size is measured on the same number of events, in as many books of one account as that takes: the processor
