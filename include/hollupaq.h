@@ -69,7 +69,7 @@ uint8_t hollupaq_history(const uint8_t *book, size_t book_len, size_t account,
                          int64_t *owed, size_t owed_len);
 
 /* How many words of 64 bits an account takes. */
-#define HOLLUPAQ_ACCOUNT_WORDS 243
+#define HOLLUPAQ_ACCOUNT_WORDS 242
 
 /*
  * An account, in the caller's memory. Only hollupaq_fresh makes one, and only
@@ -77,11 +77,11 @@ uint8_t hollupaq_history(const uint8_t *book, size_t book_len, size_t account,
  * and nobody else writes into them. Other words do no harm, but what is said
  * of them means nothing. There is no pointer in it, so that it may be copied
  * as plain memory: by assignment, with memcpy, or into a file from which the
- * same version of the library reads it back on the same kind of machine. Some
- * of its bytes hold nothing and may be anything, also what lay in the caller's
- * memory before: equal accounts may differ in them. Two threads may not post
- * to the same account at once, nor may one ask it something while another
- * posts to it.
+ * same version of the library reads it back on the same kind of machine. Every
+ * byte of it is set, and by the accepted events alone: accounts to which the
+ * same events were posted are equal bytes. Two threads may not post to the
+ * same account at once, nor may one ask it something while another posts to
+ * it.
  */
 typedef struct {
     uint64_t words[HOLLUPAQ_ACCOUNT_WORDS];

@@ -11,7 +11,7 @@ use std::process::ExitCode;
 
 #[repr(C)]
 struct Account {
-    words: [u64; 243],
+    words: [u64; 242],
 }
 
 #[derive(Clone, Copy)]

@@ -23,6 +23,7 @@ pub struct Accounts {
     after_each: Group,
     by_value: Group,
     refused: Group,
+    alone: Group,
     around: Group,
     turned: Group,
     /// How many accounts with turned bits the core saw to be none of its own, and how many not.
@@ -54,6 +55,7 @@ impl Accounts {
         self.answers.try_one(|| compare(against::answers));
         told.try_one(|| compare(against::told));
         self.refused.try_one(|| compare(against::refused));
+        self.alone.try_one(|| compare(against::accepted_alone));
         self.around.try_one(|| compare(against::around));
         // A book with an unknown kind has no history.
         if good {
@@ -85,6 +87,10 @@ impl Accounts {
             .tell(tally, "accounts posted on lent memory as by value");
         self.refused
             .tell(tally, "kept accounts, as they were after a refused event");
+        self.alone.tell(
+            tally,
+            "kept accounts, the same bytes by the accepted events alone",
+        );
         self.around
             .tell(tally, "kept accounts, the memory around them as it was");
         self.turned

@@ -13,7 +13,6 @@ ghost use Rattle.rules.specs.Table.{limit};
 ghost use Rattle.arrangement.specs.Arrangement.{noArrangement, arrangementAfter, inForceBy, arrangementOk, ArrangementFit};
 
 // Where there is none, all is 0: an arrangement in no parts is in force on no day.
-#[repr(C)]
 pub struct Arrangement {
     pub day: u32,
     pub parts: u8,

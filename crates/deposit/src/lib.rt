@@ -22,7 +22,6 @@ pub struct Conduct {
     pub cut: u32,
 }
 
-#[repr(C)]
 pub struct Deposit {
     pub held: u64,
     pub required: u64,

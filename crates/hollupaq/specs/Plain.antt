@@ -29,4 +29,4 @@ pub record Noted (b : List ℕ) (i : ℕ) (ns ns2 : List ℕ) (os os2 : List ℤ
 
 -- the bytes of an account that the caller keeps
 abbrev pub accountBytes : ℕ
-accountBytes = 1944
+accountBytes = 1936

@@ -14,7 +14,7 @@ ghost use Rattle.hollupaq.specs.Plain.{accountBytes};
 pub extern "C" fn hollupaq_account_bytes() -> u64
     ensures { λ r. ⌜ r ≡ accountBytes ⌝ }
 {
-    1_944
+    1_936
 }
 
 // No events, service on, all sums 0.
@@ -49,7 +49,7 @@ pub extern "C" fn hollupaq_owed(a: &PlainAccount) -> i64
 // The deposit held.
 #[no_mangle]
 pub extern "C" fn hollupaq_held(a: &PlainAccount) -> u64
-    ensures { λ r. ⌜ r ≡ now (a .entry) .deposit .held ⌝ }
+    ensures { λ r. ⌜ r ≡ now (a .entry) .held ⌝ }
 {
     plain::held(*a)
 }
@@ -57,7 +57,7 @@ pub extern "C" fn hollupaq_held(a: &PlainAccount) -> u64
 // The deposit required.
 #[no_mangle]
 pub extern "C" fn hollupaq_required(a: &PlainAccount) -> u64
-    ensures { λ r. ⌜ r ≡ now (a .entry) .deposit .required ⌝ }
+    ensures { λ r. ⌜ r ≡ now (a .entry) .required ⌝ }
 {
     plain::required(*a)
 }
@@ -73,7 +73,7 @@ pub extern "C" fn hollupaq_service(a: &PlainAccount) -> u32
 // How many items are open.
 #[no_mangle]
 pub extern "C" fn hollupaq_open_count(a: &PlainAccount) -> u64
-    ensures { λ r. ⌜ r ≡ now (a .entry) .ledger .items .count ⌝ }
+    ensures { λ r. ⌜ r ≡ now (a .entry) .count ⌝ }
 {
     plain::open_count(*a)
 }

@@ -15,13 +15,11 @@ ghost use Rattle.ledger.specs.OpenItems.{zeroItem, isOpen, listed, openW
 ghost use Rattle.ledger.specs.Ledger.{noLedger, creditsBy, arrearsBy, ledgerAfter, headOk, ledgerOk, LedgerFit, LedgerRoom};
 
 // The open items in the order posted, in the first `count` places; the other places are 0.
-#[repr(C)]
 pub struct OpenItems {
     pub slots: [Item; 64],
     pub count: usize,
 }
 
-#[repr(C)]
 pub struct Ledger {
     // all charges (document 01: C)
     pub charged: u64,

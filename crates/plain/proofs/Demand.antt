@@ -10,6 +10,7 @@ use Rattle.rules.specs.declared.Event.{Event}
 use Rattle.account.specs.declared.Account.{Account}
 use Rattle.account.specs.Account.{fresh, accountOk}
 use Rattle.account.specs.Post.{refusalAt, judged, posted, run, answers}
+use Rattle.account.proofs.Compose.{fresh-is, run-same}
 use Rattle.account.proofs.Demand.{demand-3}
 use Rattle.lent.specs.Left.{LeftBy}
 use Rattle.plain.specs.declared.PlainAccount.{PlainAccount}
@@ -45,6 +46,7 @@ demand-3-plain es said z h =
     let k = demand-3 es in
     record {
       answered = t .1 ∙ ap (map answerOf) (k .answered);
+      kept = t .0 ∙ ap plainOf (ap (λ a. run a es) fresh-is ∙ run-same [] es tt);
       claim = rw (t .0, account-trip (run fresh es)) k;
     }
 

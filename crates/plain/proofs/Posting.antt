@@ -1,11 +1,13 @@
 -- Posting on a plain account: what is posted, and what is not.
 use Prim.Native.Nat.{ℕ, zero, suc, _≤_}
-use mathlib.Core.Path.{_≡_, refl, ap}
+use mathlib.Core.Path.{_≡_, refl, sym, ap}
+use mathlib.Core.List.{[], _∷_}
 use mathlib.Core.Bool.{Bool, true, false, cond, _&&_}
 use native.Mathlib.Omega.{arith}
 use lib.Dec.{eqb, leb}
-use borrow.Author.Tests.{leb-true}
-use Rattle.basics.proofs.Cases.{and-left, and-right}
+use borrow.Author.Tests.{leb-true, eqb-true}
+use Rattle.basics.specs.Lists.{every}
+use Rattle.basics.proofs.Cases.{links}
 use Rattle.rules.specs.declared.Event.{Event}
 use Rattle.rules.specs.declared.Service.{Service}
 use Rattle.rules.specs.declared.Service.the-variants.{On, Off, Closed}
@@ -14,7 +16,8 @@ use Rattle.account.specs.declared.Posted.{Posted}
 use Rattle.account.specs.Post.{posted}
 use Rattle.plain.specs.declared.PlainAccount.{PlainAccount}
 use Rattle.plain.specs.declared.PlainPosted.{PlainPosted}
-use Rattle.plain.specs.Plain.{serviceNumber, serviceBy, plainOf, accountBy, plainFit, answerOf, plainPosted}
+use Rattle.plain.specs.Plain.{serviceNumber, serviceBy, plainOf, accountBy, plainFit, noSpare, answerOf, plainPosted}
+use Rattle.plain.proofs.Places.{items-trip, plain-items-trip, none-spare}
 
 -- both sides of a posting as plain numbers
 abbrev pub plainBoth : Posted → PlainPosted
@@ -45,7 +48,12 @@ live-trip false = refl
 pub account-trip : (a : Account) → accountBy (plainOf a) ≡ a
 account-trip a = λ i. record {
   last = a .last;
-  ledger = a .ledger;
+  ledger = record {
+    charged = a .ledger .charged;
+    credited = a .ledger .credited;
+    «paid_out» = a .ledger .«paid_out»;
+    items = record { slots = items-trip (a .ledger .items .slots) i; count = a .ledger .items .count };
+  };
   receipts = a .receipts;
   deposit = a .deposit;
   collection = record {
@@ -57,16 +65,16 @@ account-trip a = λ i. record {
   arrangement = a .arrangement;
 }
 
-fit-of : (s : Service) (b : Bool) → (leb (serviceNumber s) 2 && leb (cond b 1 0) 1) ≡ true
-fit-of On true = refl
-fit-of On false = refl
-fit-of Off true = refl
-fit-of Off false = refl
-fit-of Closed true = refl
-fit-of Closed false = refl
+fit-of : (s : Service) (b : Bool) (rest : Bool) → rest ≡ true → (leb (serviceNumber s) 2 && leb (cond b 1 0) 1 && eqb 0 0 && rest) ≡ true
+fit-of On true rest h = h
+fit-of On false rest h = h
+fit-of Off true rest h = h
+fit-of Off false rest h = h
+fit-of Closed true rest h = h
+fit-of Closed false rest h = h
 
 pub plain-fit : (a : Account) → plainFit (plainOf a) ≡ true
-plain-fit a = fit-of (a .collection .status .service) (a .collection .notice .live)
+plain-fit a = fit-of (a .collection .status .service) (a .collection .notice .live) _ (none-spare (a .ledger .items .slots))
 
 -- ---- and plain memory from the account, where an account has such numbers
 number-trip : (n : ℕ) → n ≤ 2 → serviceNumber (serviceBy n) ≡ n
@@ -82,17 +90,32 @@ flag-trip (suc (suc n)) l = absurd (omega (arith, l))
 
 pub plain-trip : (p : PlainAccount) → plainFit p ≡ true → plainOf (accountBy p) ≡ p
 plain-trip p t =
-    let s = leb-true (p .service) 2 (and-left (leb (p .service) 2) (leb (p .live) 1) t) in
-    let l = leb-true (p .live) 1 (and-right (leb (p .service) 2) (leb (p .live) 1) t) in
+    let fits = links (leb (p .service) 2) (leb (p .live) 1 ∷ eqb (p .spare) 0 ∷ every noSpare (p .items) ∷ []) t in
+    let items = plain-items-trip (p .items) (fits .1 .1 .1 .0) in
+    let spare = sym (eqb-true (p .spare) 0 (fits .1 .1 .0)) in
+    let service = number-trip (p .service) (leb-true (p .service) 2 (fits .0)) in
+    let live = flag-trip (p .live) (leb-true (p .live) 1 (fits .1 .0)) in
     λ i. record {
       last = p .last;
       notice = p .notice;
-      ledger = p .ledger;
+      charged = p .charged;
+      credited = p .credited;
+      payouts = p .payouts;
+      items = items i;
+      count = p .count;
       receipts = p .receipts;
-      deposit = p .deposit;
+      held = p .held;
+      required = p .required;
+      full = p .full;
+      conduct = p .conduct;
       calls = p .calls;
+      arranged = p .arranged;
       medical = p .medical;
-      arrangement = p .arrangement;
-      service = number-trip (p .service) s i;
-      live = flag-trip (p .live) l i;
+      debt = p .debt;
+      paid = p .paid;
+      returned = p .returned;
+      service = service i;
+      live = live i;
+      parts = p .parts;
+      spare = spare i;
     }

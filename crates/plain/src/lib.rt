@@ -1,5 +1,7 @@
 // An account as plain numbers: the form in which a program in another language keeps one, since an enum has no form there.
-// It is the account part by part, but for the service and whether a final notice lives on, which are numbers.
+// Every byte of it belongs to a field, so that equal accounts are equal bytes, and whatever lies in its memory is a value
+// of it: there is no bool among its fields, and no enum.
+mod items;
 mod questions;
 
 use account::Account;
@@ -8,8 +10,10 @@ use collection::Calls;
 use collection::Collection;
 use collection::Notice;
 use collection::Status;
+use deposit::Conduct;
 use deposit::Deposit;
 use ledger::Ledger;
+use ledger::OpenItems;
 use medical::Medical;
 use receipts::Receipts;
 use rules::Answer;
@@ -24,23 +28,46 @@ pub use questions::owed;
 pub use questions::required;
 pub use questions::service;
 
-// Whatever lies in its memory is a value of it: there is no bool among its fields, and no enum.
+// An open item; the spare bytes are 0.
+#[repr(C)]
+pub struct PlainItem {
+    pub day: u32,
+    pub spare: u32,
+    pub amount: u64,
+    pub upto: u64,
+}
+
 #[repr(C)]
 pub struct PlainAccount {
-    // the day of the last accepted event
+    // the days of the last accepted event and of the newest final notice
     pub last: u32,
-    // the day of the newest final notice
     pub notice: u32,
-    pub ledger: Ledger,
+    // the ledger
+    pub charged: u64,
+    pub credited: u64,
+    pub payouts: u64,
+    pub items: [PlainItem; 64],
+    pub count: usize,
     pub receipts: Receipts,
-    pub deposit: Deposit,
+    // the deposit, and since when it is full
+    pub held: u64,
+    pub required: u64,
+    pub full: u32,
+    pub conduct: Conduct,
     pub calls: Calls,
+    // the payment arrangement: its day, and below its debt, what was paid and returned since, and its parts
+    pub arranged: u32,
     pub medical: Medical,
-    pub arrangement: Arrangement,
+    pub debt: u64,
+    pub paid: u64,
+    pub returned: u64,
     // 0 on, 1 off, 2 closed
     pub service: u32,
     // 1 where the final notice lives on, else 0
-    pub live: u32,
+    pub live: u8,
+    pub parts: u8,
+    // 0
+    pub spare: u16,
 }
 
 // The answer to an event: the receipt of a payment, 0 of another event; or the number that refuses it.
@@ -94,34 +121,76 @@ fn answer_of(a: Answer) -> PlainAnswer
 fn plain_of(a: Account) -> PlainAccount
     ensures { λ r. ⌜ r ≡ plainOf a ⌝ }
 {
-    let ledger = a.ledger;
+    let l = a.ledger;
+    let open = l.items;
+    let slots = open.slots;
+    let items = items::plain_items(slots);
     let receipts = a.receipts;
-    let deposit = a.deposit;
+    let d = a.deposit;
+    let conduct = d.conduct;
     let c = a.collection;
     let notice = c.notice;
     let calls = c.calls;
     let medical = a.medical;
-    let arrangement = a.arrangement;
+    let r = a.arrangement;
     PlainAccount {
         last: a.last,
         notice: notice.day,
-        ledger,
+        charged: l.charged,
+        credited: l.credited,
+        payouts: l.paid_out,
+        items,
+        count: open.count,
         receipts,
-        deposit,
+        held: d.held,
+        required: d.required,
+        full: d.full_on,
+        conduct,
         calls,
+        arranged: r.day,
         medical,
-        arrangement,
+        debt: r.debt,
+        paid: r.paid,
+        returned: r.returned,
         service: service_number(c.service()),
-        live: basics::select32(notice.live, 1, 0),
+        live: basics::select8(notice.live, 1, 0),
+        parts: r.parts,
+        spare: 0,
     }
 }
 
-pub fn account_by(p: PlainAccount) -> Account
-    ensures { λ r. ⌜ r ≡ accountBy p ⌝ }
+fn ledger_by(p: PlainAccount) -> Ledger
+    ensures { λ r. ⌜ r ≡ accountBy p .ledger ⌝ }
 {
-    let ledger = p.ledger;
-    let receipts = p.receipts;
-    let deposit = p.deposit;
+    let items = p.items;
+    let slots = items::items_by(items);
+    let open = OpenItems {
+        slots,
+        count: p.count,
+    };
+    Ledger {
+        charged: p.charged,
+        credited: p.credited,
+        paid_out: p.payouts,
+        items: open,
+    }
+}
+
+fn deposit_by(p: PlainAccount) -> Deposit
+    ensures { λ r. ⌜ r ≡ accountBy p .deposit ⌝ }
+{
+    let conduct = p.conduct;
+    Deposit {
+        held: p.held,
+        required: p.required,
+        full_on: p.full,
+        conduct,
+    }
+}
+
+fn collection_by(p: PlainAccount) -> Collection
+    ensures { λ r. ⌜ r ≡ accountBy p .collection ⌝ }
+{
     let service = service_by(p.service);
     let status = Status { service };
     let notice = Notice {
@@ -129,13 +198,28 @@ pub fn account_by(p: PlainAccount) -> Account
         live: p.live == 1,
     };
     let calls = p.calls;
-    let collection = Collection {
+    Collection {
         status,
         notice,
         calls,
-    };
+    }
+}
+
+pub fn account_by(p: PlainAccount) -> Account
+    ensures { λ r. ⌜ r ≡ accountBy p ⌝ }
+{
+    let ledger = ledger_by(p);
+    let receipts = p.receipts;
+    let deposit = deposit_by(p);
+    let collection = collection_by(p);
     let medical = p.medical;
-    let arrangement = p.arrangement;
+    let arrangement = Arrangement {
+        day: p.arranged,
+        parts: p.parts,
+        debt: p.debt,
+        paid: p.paid,
+        returned: p.returned,
+    };
     Account {
         last: p.last,
         ledger,
@@ -151,7 +235,8 @@ pub fn account_by(p: PlainAccount) -> Account
 fn fits(p: PlainAccount) -> bool
     ensures { λ r. ⌜ r ≡ plainFit p ⌝ }
 {
-    (p.service <= 2) & (p.live <= 1)
+    let items = p.items;
+    (p.service <= 2) & (p.live <= 1) & (p.spare == 0) & items::no_spare(items)
 }
 
 pub fn fresh() -> PlainAccount

@@ -19,18 +19,16 @@ pub fn owed(p: PlainAccount) -> i64
 
 // The deposit held.
 pub fn held(p: PlainAccount) -> u64
-    ensures { λ r. ⌜ r ≡ p .deposit .held ⌝ }
+    ensures { λ r. ⌜ r ≡ p .held ⌝ }
 {
-    let d = p.deposit;
-    d.held
+    p.held
 }
 
 // The deposit required.
 pub fn required(p: PlainAccount) -> u64
-    ensures { λ r. ⌜ r ≡ p .deposit .required ⌝ }
+    ensures { λ r. ⌜ r ≡ p .required ⌝ }
 {
-    let d = p.deposit;
-    d.required
+    p.required
 }
 
 // 0 on, 1 off, 2 closed.
@@ -42,10 +40,9 @@ pub fn service(p: PlainAccount) -> u32
 
 // How many items are open.
 pub fn open_count(p: PlainAccount) -> u64
-    ensures { λ r. ⌜ r ≡ p .ledger .items .count ⌝ }
+    ensures { λ r. ⌜ r ≡ p .count ⌝ }
 {
-    let l = p.ledger;
-    l.open_count()
+    p.count as u64
 }
 
 // The day and the unpaid part of open item i, from 0 in the order posted; both 0 past the last.

@@ -37,7 +37,6 @@ pub enum Answer {
 }
 
 // A charge: its day, its amount, and the sum of all charges up to it (document 01: an item, a_k, C_k).
-#[repr(C)]
 pub struct Item {
     pub day: u32,
     pub amount: u64,

@@ -1,4 +1,5 @@
 //! What speaks against a kept account.
+use super::bytes;
 use super::posting::{keep, Asked, Kept};
 use super::told::Told;
 use crate::generator::History;
@@ -7,7 +8,7 @@ use crate::peer::money::Money;
 use crate::peer::{post_all, receipts, Posted};
 use crate::{show, shrink};
 use std::fmt::Debug;
-use tools::core::{self, Answer};
+use tools::core::{self, Account, Answer};
 use tools::event::Event;
 
 /// What posting costs beside its events, in the units of the shrinking.
@@ -89,6 +90,17 @@ pub fn refused(_: &[Event], _: &Posted, kept: &Kept) -> Option<String> {
     ))
 }
 
+/// The account is what the accepted events alone make of a fresh one, byte for byte.
+pub fn accepted_alone(_: &[Event], posted: &Posted, kept: &Kept) -> Option<String> {
+    let mut account = Account::fresh();
+    for &event in &posted.accepted {
+        account.post(event);
+    }
+    let bytes = bytes::differing(&account, &kept.account);
+    (!bytes.is_empty())
+        .then(|| format!("  posting the accepted events alone changes the bytes {bytes:?}\n"))
+}
+
 /// Nothing before or behind the account is touched.
 pub fn around(_: &[Event], _: &Posted, kept: &Kept) -> Option<String> {
     let words = "  the memory before or behind the account is not as it was\n";
@@ -100,11 +112,12 @@ mod tests {
     use super::*;
     use crate::make::{bill, cut, payment};
 
-    const CHECKS: [(&str, Check); 5] = [
+    const CHECKS: [(&str, Check); 6] = [
         ("answers", answers),
         ("told", told),
         ("by value", by_value),
         ("refused", refused),
+        ("alone", accepted_alone),
         ("around", around),
     ];
 
@@ -145,7 +158,8 @@ mod tests {
     #[test]
     fn a_wrong_standing_is_seen() {
         // The same sums, but items of other days.
-        assert_eq!(speak(|posted, _| posted.accepted[0].day = 99), ["told"]);
+        let other_day = |posted: &mut Posted, _: &mut Kept| posted.accepted[0].day = 99;
+        assert_eq!(speak(other_day), ["told", "alone"]);
         assert_eq!(speak(|_, kept| kept.told.swap(0, 1)), ["told"]);
         let once = |_: &mut Posted, kept: &mut Kept| kept.told.truncate(1);
         assert_eq!(speak(once), ["told"]);
@@ -155,6 +169,8 @@ mod tests {
     fn changed_memory_is_seen() {
         let changed = |_: &mut Posted, kept: &mut Kept| kept.changed = Some((3, vec![8]));
         assert_eq!(speak(changed), ["refused"]);
+        let fresh = |_: &mut Posted, kept: &mut Kept| kept.account = Account::fresh();
+        assert_eq!(speak(fresh), ["alone"]);
         assert_eq!(speak(|_, kept| kept.is_touched_around = true), ["around"]);
     }
 }

@@ -40,12 +40,13 @@ pub enum Asked {
 }
 
 /// What a kept account showed.
-#[derive(Debug)]
 pub struct Kept {
     /// The answer to each event, and what was owed after it.
     pub replies: Vec<(Answer, i64)>,
     pub asked: Asked,
     pub told: Vec<Told>,
+    /// The account at the end.
+    pub account: Account,
     /// The first refused event that changed the account, counted from 0, and the bytes that it changed.
     pub changed: Option<(usize, Vec<usize>)>,
     pub is_touched_around: bool,
@@ -57,6 +58,7 @@ pub fn keep(events: &[Event], asked: Asked) -> Kept {
         replies: Vec::with_capacity(events.len()),
         asked,
         told: Vec::new(),
+        account: Account::fresh(),
         changed: None,
         is_touched_around: false,
     };
@@ -74,6 +76,7 @@ pub fn keep(events: &[Event], asked: Asked) -> Kept {
         }
     }
     kept.is_touched_around = !memory.is_untouched_around();
+    kept.account = memory.account;
     kept
 }
 

@@ -13,20 +13,20 @@ use tools::event::Event;
 const POSTED: usize = 12;
 
 /// Here stand the service, and whether a final notice lives on.
-const SERVICE: usize = 1_936;
-const NOTICE_LIVES: usize = 1_940;
+const SERVICE: usize = 1_928;
+const NOTICE_LIVES: usize = 1_932;
 
 /// Parts of an account, so that the short ones are hit too: the days of the last event and the last notice, the sums,
-/// the open items, their count, the receipts, the deposit, what lies behind it, the service, and whether the notice
-/// lives on.
+/// the open items, their count, the receipts, the deposit with its days, what lies behind it, the service, and whether
+/// the notice lives on with what follows it.
 const PARTS: [(usize, usize); 9] = [
     (0, 8),
     (8, 32),
     (32, 1_568),
     (1_568, 1_576),
     (1_576, 1_840),
-    (1_840, 1_880),
-    (1_880, SERVICE),
+    (1_840, 1_876),
+    (1_876, SERVICE),
     (SERVICE, NOTICE_LIVES),
     (NOTICE_LIVES, BYTES),
 ];

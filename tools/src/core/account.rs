@@ -3,7 +3,7 @@ use crate::event::Event;
 use crate::service::Service;
 
 /// How many words of 64 bits an account takes. include/hollupaq.h has the same number.
-pub const ACCOUNT_WORDS: usize = 243;
+pub const ACCOUNT_WORDS: usize = 242;
 
 /// No account has more open items.
 const MOST_OPEN_ITEMS: u64 = 64;

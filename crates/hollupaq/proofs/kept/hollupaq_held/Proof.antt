@@ -16,4 +16,4 @@ pub hollupaq-held-spec : {M : Type 1} → statement M
 unfolding code.routine
 hollupaq-held-spec 𝓤 H 𝓜 𝓖 𝓡 =
     calling 𝓤 H 𝓜 𝓡 code.env #hollupaq-held code.function (code.unfolded 𝓤 H 𝓜 𝓡) asked.name asked.routine code.calls-plain·held _ _ (known.met 𝓤 H 𝓜 𝓖 𝓡)
-    (meets account number account-laws number-laws asked.name (λ (p : PlainAccount). p .deposit .held) 𝓤 H (𝓖 .A) (givenOf 𝓤 H 𝓜 𝓖) (own.clauses 𝓤 H (𝓖 .A) (𝓜 .mem) (𝓡 .run)) refl)
+    (meets account number account-laws number-laws asked.name (λ (p : PlainAccount). p .held) 𝓤 H (𝓖 .A) (givenOf 𝓤 H 𝓜 𝓖) (own.clauses 𝓤 H (𝓖 .A) (𝓜 .mem) (𝓡 .run)) refl)

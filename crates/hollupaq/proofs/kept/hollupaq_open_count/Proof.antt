@@ -16,4 +16,4 @@ pub hollupaq-open-count-spec : {M : Type 1} → statement M
 unfolding code.routine
 hollupaq-open-count-spec 𝓤 H 𝓜 𝓖 𝓡 =
     calling 𝓤 H 𝓜 𝓡 code.env #hollupaq-open-count code.function (code.unfolded 𝓤 H 𝓜 𝓡) asked.name asked.routine code.calls-plain·open-count _ _ (known.met 𝓤 H 𝓜 𝓖 𝓡)
-    (meets account number account-laws number-laws asked.name (λ (p : PlainAccount). p .ledger .items .count) 𝓤 H (𝓖 .A) (givenOf 𝓤 H 𝓜 𝓖) (own.clauses 𝓤 H (𝓖 .A) (𝓜 .mem) (𝓡 .run)) refl)
+    (meets account number account-laws number-laws asked.name (λ (p : PlainAccount). p .count) 𝓤 H (𝓖 .A) (givenOf 𝓤 H 𝓜 𝓖) (own.clauses 𝓤 H (𝓖 .A) (𝓜 .mem) (𝓡 .run)) refl)
