@@ -71,30 +71,28 @@ impl Accounts {
     }
 
     pub fn tell(&self, tally: &mut Tally) {
-        self.answers.tell(
-            tally,
-            "kept accounts, each answer with its number or receipt and what is owed after it",
-        );
-        self.at_the_end.tell(
-            tally,
-            "kept accounts, deposit, service and open items at the end",
-        );
-        self.after_each.tell(
-            tally,
-            "kept accounts, deposit, service and open items after each event",
-        );
-        self.by_value
-            .tell(tally, "accounts posted on lent memory as by value");
-        self.refused
-            .tell(tally, "kept accounts, as they were after a refused event");
-        self.alone.tell(
-            tally,
-            "kept accounts, the same bytes by the accepted events alone",
-        );
-        self.around
-            .tell(tally, "kept accounts, the memory around them as it was");
-        self.turned
-            .tell(tally, "kept accounts with bits turned, answered or refused");
+        let groups = [
+            (
+                &self.answers,
+                "each answer with its number or receipt and what is owed after it",
+            ),
+            (
+                &self.at_the_end,
+                "deposit, service and open items at the end",
+            ),
+            (
+                &self.after_each,
+                "deposit, service and open items after each event",
+            ),
+            (&self.by_value, "the same answers by value"),
+            (&self.refused, "as they were after a refused event"),
+            (&self.alone, "the same bytes by the accepted events alone"),
+            (&self.around, "the memory around them as it was"),
+            (&self.turned, "with bits turned, answered or refused"),
+        ];
+        for (group, words) in groups {
+            group.tell(tally, &format!("kept accounts, {words}"));
+        }
         let missing = self.not_reached();
         tally.check(
             "reached: turned bits that the core sees, and some that it can't",

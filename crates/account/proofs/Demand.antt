@@ -1,7 +1,7 @@
 -- Demand 3 holds of every list of events.
 use Prim.Native.Nat.{ℕ, _+_}
 use mathlib.Core.Path.{_≡_, refl, _∙_}
-use mathlib.Core.Bool.{Bool, true, false, cond}
+use mathlib.Core.Bool.{Bool, true, false, cond, true≢false}
 use mathlib.Core.List.{List, [], _∷_}
 use native.Mathlib.Omega.{arith}
 use lib.Dec.{eqb}
@@ -13,7 +13,9 @@ use Rattle.rules.specs.History.{History}
 use Rattle.rules.specs.Accepted.{refusal, offered, acceptedAfter, accepted, Lawful, answersAfter, cutOn}
 use Rattle.rules.proofs.Lawful.{accepted-lawful, money}
 use Rattle.rules.proofs.Cut.{cut-exact}
-use Rattle.account.specs.Account.{accountOf}
+use Rattle.account.specs.declared.Account.{Account}
+use Rattle.account.specs.Account.{accountOf, accountOk}
+use Rattle.account.specs.Post.{refusalAt, judged, posted}
 use Rattle.account.specs.Claim.{accepts, refusedIn, ClaimOf, Claim}
 use Rattle.account.proofs.Laws.{laws}
 use Rattle.account.proofs.Compose.{posted-same, run-same, answers-same, fresh-is, owed-same}
@@ -54,3 +56,12 @@ pub demand-3 : (es : List Event) → Claim es
 demand-3 es =
     rw (fresh-is, run-same [] es tt, answers-same [] es tt)
     (claim-of es (accepted es) (accepted-lawful es) (refused-count [] es ∙ omega arith))
+
+-- ---- demand 1: a refused event leaves any account as it was, also one that fails the test
+judged-leaves : (a : Account) (e : Event) → accepts (judged a e .answer) ≡ false → judged a e .account ≡ a
+unfolding judged
+judged-leaves a e h = on (eqb (refusalAt a e) 0) (λ q. absurd (true≢false (rw q at h))) (λ q. rw q refl)
+
+pub refused-leaves : (a : Account) (e : Event) → accepts (posted a e .answer) ≡ false → posted a e .account ≡ a
+unfolding posted
+refused-leaves a e h = on (accountOk a) (λ q. rw q (judged-leaves a e (rw q at h))) (λ q. rw q refl)

@@ -8,7 +8,7 @@ use native.Mathlib.Numerals.{add-one}
 use native.Mathlib.Nat.{not-suc-le-zero, le-of-suc-le-suc}
 use lib.Dec.{eqb}
 use lib.ListN.{length, take, getD, length-take}
-use lib.Seq.{take-suc}
+use lib.Seq.{take-suc, take-all}
 use borrow.Author.Tests.{eqb-true}
 use Rattle.basics.specs.Machine.{largest}
 use Rattle.basics.proofs.Cases.{links}
@@ -61,12 +61,6 @@ turn es k a r e d p x l g q z w =
       at = ap (λ v. v .account) o ∙ (sym (run-more fresh (take k es) e) ∙ ap (run fresh) (sym s));
       count = rw s (omega (arith, w .count, c, refused-more fresh (take k es) e));
     }
-
-take-all : {A : Type 0} (k : ℕ) (l : List A) → length l ≤ k → take k l ≡ l
-take-all zero [] h = refl
-take-all zero (x ∷ l) h = absurd (not-suc-le-zero h)
-take-all (suc k) [] h = refl
-take-all {A} (suc k) (x ∷ l) h = ap {B = List A} (λ r. x ∷ r) (take-all k l (le-of-suc-le-suc h))
 
 pub finish : (es : List Event) (k : ℕ) (a : Account) (r : ℕ) → length es ≤ k → Walked es k a r → Shown (record { account = a; refused = r }) es
 finish es k a r l w =

@@ -9,8 +9,8 @@ use Rattle.plain.proofs.PlainAnswer as answer-type
 use Rattle.plain.proofs.PlainAnswer.Laws as answer-type′
 use Rattle.plain.proofs.PlainPosted as posted-type
 use Rattle.plain.proofs.PlainPosted.Laws as posted-type′
-use Rattle.lent.proofs.Data.{Data, Laws, Two, struct, TwoLaws}
-use Rattle.lent.proofs.Types.{of-row, number}
+use Rattle.lent.proofs.Data.{Data, Laws, of-row, struct-laws, Two, struct, TwoLaws}
+use Rattle.lent.proofs.Types.{number}
 use Rattle.lent.proofs.Storing.{flag}
 use Rattle.hollupaq.specs.Plain.{accountBytes}
 
@@ -18,12 +18,7 @@ abbrev pub account : Data
 account = of-row account-type.the-row account-type′.mir (structs.val account-type.the-type account-type′.the-laws)
 
 pub account-laws : Laws account
-account-laws = record {
-  tells = structs.tells account-type.the-type account-type′.the-laws;
-  makes = λ 𝓤 H A W. structs.makes account-type.the-type account-type′.the-plain 𝓤 H A;
-  lawful = λ 𝓤 H A W. structs.lawful account-type.the-type account-type′.the-laws 𝓤 H A W;
-  copy = λ 𝓤 H A W. structs.copy account-type.the-type account-type′.the-copy 𝓤 H A W;
-}
+account-laws = struct-laws account-type.the-type account-type′.the-laws account-type′.the-plain account-type′.the-copy
 
 -- what the library says of its size is so
 bytes-are : size (account .mir) ≡ accountBytes
@@ -45,12 +40,7 @@ answer = record {
 
 pub answer-laws : TwoLaws flag number answer
 answer-laws = record {
-  laws = record {
-    tells = structs.tells answer-type.the-type answer-type′.the-laws;
-    makes = λ 𝓤 H A W. structs.makes answer-type.the-type answer-type′.the-plain 𝓤 H A;
-    lawful = λ 𝓤 H A W. structs.lawful answer-type.the-type answer-type′.the-laws 𝓤 H A W;
-    copy = λ 𝓤 H A W. structs.copy answer-type.the-type answer-type′.the-copy 𝓤 H A W;
-  };
+  laws = struct-laws answer-type.the-type answer-type′.the-laws answer-type′.the-plain answer-type′.the-copy;
   parts = λ z v is. (structs.owed answer-type.the-type answer-type′.the-laws z (v ∷ []) is .0, structs.owed answer-type.the-type answer-type′.the-laws z (v ∷ []) is .1 .0);
   made = λ s t is-s is-t. structs.owes answer-type.the-type answer-type′.the-laws (record { accepted = s; number = t }) (is-s, (is-t, tt));
   whole = λ z. refl;
@@ -72,12 +62,7 @@ both = record {
 
 pub both-laws : TwoLaws (struct flag number answer) account both
 both-laws = record {
-  laws = record {
-    tells = structs.tells posted-type.the-type posted-type′.the-laws;
-    makes = λ 𝓤 H A W. structs.makes posted-type.the-type posted-type′.the-plain 𝓤 H A;
-    lawful = λ 𝓤 H A W. structs.lawful posted-type.the-type posted-type′.the-laws 𝓤 H A W;
-    copy = λ 𝓤 H A W. structs.copy posted-type.the-type posted-type′.the-copy 𝓤 H A W;
-  };
+  laws = struct-laws posted-type.the-type posted-type′.the-laws posted-type′.the-plain posted-type′.the-copy;
   parts = λ z v is. (structs.owed posted-type.the-type posted-type′.the-laws z (v ∷ []) is .0, structs.owed posted-type.the-type posted-type′.the-laws z (v ∷ []) is .1 .0);
   made = λ s t is-s is-t. structs.owes posted-type.the-type posted-type′.the-laws (record { answer = s; account = t }) (is-s, (is-t, tt));
   whole = λ z. refl;

@@ -1,25 +1,22 @@
 -- Demand 3 holds of every list posted on a plain account, and a refused event leaves any plain account as it was.
-use Prim.Native.Nat.{ℕ}
 use mathlib.Core.Path.{_≡_, refl, sym, ap, _∙_}
-use mathlib.Core.Bool.{true, false, cond}
+use mathlib.Core.Bool.{false}
 use mathlib.Core.List.{List, [], _∷_, map}
-use lib.Dec.{eqb}
-use native.Mathlib.Omega.{arith}
 use Rattle.basics.proofs.Cases.{on}
 use Rattle.rules.specs.declared.Event.{Event}
+use Rattle.rules.specs.declared.Answer.{Answer}
+use Rattle.rules.specs.declared.Answer.the-variants.{Accepted, Refused}
 use Rattle.account.specs.declared.Account.{Account}
-use Rattle.account.specs.Account.{fresh, accountOk}
-use Rattle.account.specs.Post.{refusalAt, judged, posted, run, answers}
+use Rattle.account.specs.Account.{fresh}
+use Rattle.account.specs.Post.{posted, run, answers}
+use Rattle.account.specs.Claim.{accepts}
 use Rattle.account.proofs.Compose.{fresh-is, run-same}
-use Rattle.account.proofs.Demand.{demand-3}
+use Rattle.account.proofs.Demand.{demand-3, refused-leaves}
 use Rattle.lent.specs.Left.{LeftBy}
 use Rattle.plain.specs.declared.PlainAccount.{PlainAccount}
 use Rattle.plain.specs.declared.PlainAnswer.{PlainAnswer}
 use Rattle.plain.specs.Plain.{plainOf, accountBy, plainFit, answerOf, plainPosted, PlainLeaves, PlainClaim}
 use Rattle.plain.proofs.Posting.{plainBoth, posted-on, not-posted, account-trip, plain-fit, plain-trip}
-
-no : true ≡ false → ⊥
-no h = omega (arith, ap {B = ℕ} (λ b. cond b 0 1) h)
 
 -- the plain form of an account is posted to as the account is
 posted-plain : (a : Account) (e : Event) → plainPosted (plainOf a) e ≡ plainBoth (posted a e)
@@ -51,18 +48,14 @@ demand-3-plain es said z h =
     }
 
 -- ---- demand 1: a refused event leaves the account as it was
-judged-same : (a : Account) (e : Event) → answerOf (judged a e .answer) .accepted ≡ false → judged a e .account ≡ a
-unfolding judged
-judged-same a e h = on (eqb (refusalAt a e) 0) (λ q. absurd (no (rw q at h))) (λ q. rw q refl)
-
-posted-same : (a : Account) (e : Event) → answerOf (posted a e .answer) .accepted ≡ false → posted a e .account ≡ a
-unfolding posted
-posted-same a e h = on (accountOk a) (λ q. rw q (judged-same a e (rw q at h))) (λ q. rw q refl)
+accepted-is : (s : Answer) → accepts s ≡ answerOf s .accepted
+accepted-is (Accepted n) = refl
+accepted-is (Refused n) = refl
 
 -- of any plain account, also one that no posting made
 pub refused-stays : (p : PlainAccount) (e : Event) → plainPosted p e .answer .accepted ≡ false → plainPosted p e .account ≡ p
 refused-stays p e h =
     on (plainFit p)
     (λ t. let q = posted-on p e t in
-    ap (λ r. r .account) q ∙ (ap plainOf (posted-same (accountBy p) e (ap (λ r. r .answer .accepted) (sym q) ∙ h)) ∙ plain-trip p t))
+    ap (λ r. r .account) q ∙ (ap plainOf (refused-leaves (accountBy p) e (accepted-is (posted (accountBy p) e .answer) ∙ (ap (λ r. r .answer .accepted) (sym q) ∙ h))) ∙ plain-trip p t))
     (λ t. ap (λ r. r .account) (not-posted p e t))

@@ -1,13 +1,12 @@
 -- The places of the open items in both forms: one law for a loop that puts f of each place, and the trips.
-use Prim.Native.Nat.{ℕ, zero, suc, _+_, _≤_, _<_}
+use Prim.Native.Nat.{ℕ, zero, suc, _+_, _<_}
 use mathlib.Core.Path.{_≡_, refl, sym, ap, _∙_}
 use mathlib.Core.Bool.{true}
-use mathlib.Core.List.{List, [], _∷_, _++_, map}
+use mathlib.Core.List.{List, [], _∷_, _++_, map, map-append}
 use native.Mathlib.Omega.{arith}
-use native.Mathlib.Nat.{not-suc-le-zero, le-of-suc-le-suc}
 use native.Mathlib.Numerals.{add-one}
 use lib.ListN.{length, take, getD, set, length-map}
-use lib.Seq.{take-suc, length-take-le}
+use lib.Seq.{take-suc, take-all, length-take-le}
 use borrow.Author.Tests.{eqb-true}
 use Rattle.basics.specs.Lists.{pad, every}
 use Rattle.basics.proofs.Cases.{and-left, and-right}
@@ -19,12 +18,6 @@ use Rattle.plain.specs.Plain.{plainItem, itemBy, noSpare}
 abbrev pub noItem : PlainItem
 noItem = record { day = 0; spare = 0; amount = 0; upto = 0 }
 
-pub take-all : {A : Type 0} (k : ℕ) (l : List A) → length l ≤ k → take k l ≡ l
-take-all zero [] h = refl
-take-all zero (x ∷ l) h = absurd (not-suc-le-zero h)
-take-all (suc k) [] h = refl
-take-all {A} (suc k) (x ∷ l) h = ap {B = List A} (λ r. x ∷ r) (take-all k l (le-of-suc-le-suc h))
-
 pad-full : {A : Type 0} (n : ℕ) (z : A) (xs : List A) → length xs ≡ n → pad n z xs ≡ xs
 pad-full zero z [] h = refl
 pad-full zero z (x ∷ xs) h = absurd (omega (arith, h))
@@ -32,17 +25,13 @@ pad-full (suc n) z [] h = absurd (omega (arith, h))
 pad-full {A} (suc n) z (x ∷ xs) h = ap {B = List A} (λ r. x ∷ r) (pad-full n z xs (omega (arith, h)))
 
 module _ {A B : Type 0} (f : A → B) (z : B) (l : List A) (e : length l ≡ 64) where
-  map-more : (xs : List A) (x : A) → map f (xs ++ (x ∷ [])) ≡ map f xs ++ (f x ∷ [])
-  map-more [] x = refl
-  map-more (y ∷ xs) x = ap {B = List B} (λ r. f y ∷ r) (map-more xs x)
-
   pub put-one : (i : ℕ) (d : A) → i < 64 → set (pad 64 z (map f (take i l))) i (f (getD l i d)) ≡ pad 64 z (map f (take (i + 1) l))
   put-one i d h =
       let n : length (map f (take i l)) ≡ i = length-map (take i l) f ∙ length-take-le i l (omega (arith, e)) in
       let t : take (i + 1) l ≡ take i l ++ (getD l i d ∷ []) = rw add-one (take-suc l i d (omega (arith, e))) in
       ap (λ k. set (pad 64 z (map f (take i l))) k (f (getD l i d))) (sym n)
       ∙ (pad-set 64 z (map f (take i l)) (f (getD l i d)) (omega (arith, n))
-      ∙ ap (pad 64 z) (sym (ap (map f) t ∙ map-more (take i l) (getD l i d))))
+      ∙ ap (pad 64 z) (sym (ap (map f) t ∙ map-append f (take i l) (getD l i d ∷ []))))
 
   pub put-all : pad 64 z (map f (take 64 l)) ≡ map f l
   put-all =

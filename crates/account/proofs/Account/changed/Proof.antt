@@ -2,11 +2,6 @@ use Rattle.account.specs.Account.{changed}
 use borrow.Author.Needs.{needs}
 use Rattle.account.proofs.Account.changed.Statement.{statement}
 use Rattle.account.proofs.Account.changed.Tie as tie
-use Rattle.arrangement.proofs.Arrangement.after.Reads as Arrangement-after-reads
-use Rattle.collection.proofs.Collection.after.Reads as Collection-after-reads
-use Rattle.deposit.proofs.Deposit.after.Reads as Deposit-after-reads
-use Rattle.medical.proofs.Medical.after.Reads as Medical-after-reads
-use Rattle.receipts.proofs.Receipts.after.Reads as Receipts-after-reads
 
 arrears-requires : tie.Need-arrears-requires
 arrears-requires c κs = search needs

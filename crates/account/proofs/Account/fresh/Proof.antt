@@ -1,12 +1,6 @@
 use borrow.Author.Needs.{needs}
 use Rattle.account.proofs.Account.fresh.Statement.{statement}
 use Rattle.account.proofs.Account.fresh.Tie as tie
-use Rattle.arrangement.proofs.Arrangement.fresh.Reads as Arrangement-fresh-reads
-use Rattle.collection.proofs.Collection.fresh.Reads as Collection-fresh-reads
-use Rattle.deposit.proofs.Deposit.fresh.Reads as Deposit-fresh-reads
-use Rattle.ledger.proofs.Ledger.fresh.Reads as Ledger-fresh-reads
-use Rattle.medical.proofs.Medical.fresh.Reads as Medical-fresh-reads
-use Rattle.receipts.proofs.Receipts.fresh.Reads as Receipts-fresh-reads
 
 fresh-requires : tie.Need-fresh-requires
 fresh-requires c κs = search needs

@@ -2,12 +2,6 @@ use Rattle.account.specs.Account.{accountOk}
 use borrow.Author.Needs.{needs}
 use Rattle.account.proofs.Account.ok.Statement.{statement}
 use Rattle.account.proofs.Account.ok.Tie as tie
-use Rattle.arrangement.proofs.Arrangement.ok.Reads as Arrangement-ok-reads
-use Rattle.collection.proofs.Collection.ok.Reads as Collection-ok-reads
-use Rattle.deposit.proofs.Deposit.ok.Reads as Deposit-ok-reads
-use Rattle.ledger.proofs.Ledger.ok.Reads as Ledger-ok-reads
-use Rattle.medical.proofs.Medical.ok.Reads as Medical-ok-reads
-use Rattle.receipts.proofs.Receipts.ok.Reads as Receipts-ok-reads
 
 ok-requires : tie.Need-ok-requires
 ok-requires c κs = search needs

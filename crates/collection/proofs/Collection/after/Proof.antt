@@ -1,9 +1,6 @@
 use borrow.Author.Needs.{needs}
 use Rattle.collection.proofs.Collection.after.Statement.{statement}
 use Rattle.collection.proofs.Collection.after.Tie as tie
-use Rattle.collection.proofs.Calls.after.Reads as Calls-after-reads
-use Rattle.collection.proofs.Notice.after.Reads as Notice-after-reads
-use Rattle.collection.proofs.Status.after.Reads as Status-after-reads
 
 after-requires : tie.Need-after-requires
 after-requires c κs = search needs

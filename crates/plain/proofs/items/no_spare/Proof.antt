@@ -2,11 +2,12 @@ use Prim.Native.Nat.{_≤_, _-_}
 use mathlib.Core.Path.{_≡_, ap, _∙_}
 use native.Mathlib.Omega.{arith}
 use lib.ListN.{take, length}
+use lib.Seq.{take-all}
 use borrow.Author.Needs.{needs}
 use Rattle.basics.specs.Lists.{every}
 use Rattle.basics.proofs.Lists.{length-of, every-step}
 use Rattle.plain.specs.Plain.{noSpare}
-use Rattle.plain.proofs.Places.{noItem, take-all}
+use Rattle.plain.proofs.Places.{noItem}
 use Rattle.plain.proofs.items.no_spare.Statement.{statement}
 use Rattle.plain.proofs.items.no_spare.Tie as tie
 
