@@ -14,12 +14,6 @@ pub fn select8(c: bool, a: u8, b: u8) -> u8
     if c { a } else { b }
 }
 
-pub fn select32(c: bool, a: u32, b: u32) -> u32
-    ensures { λ r. ⌜ r ≡ cond c a b ⌝ }
-{
-    if c { a } else { b }
-}
-
 pub fn select64(c: bool, a: u64, b: u64) -> u64
     ensures { λ r. ⌜ r ≡ cond c a b ⌝ }
 {

@@ -16,7 +16,7 @@ use Rattle.rules.specs.Kinds.{bill, payment, returnedPayment, fee, depos
 use Rattle.rules.specs.History.{History, finalDay, is, within, lastPosted, total}
 use Rattle.rules.specs.Fees.{fees, feeOf}
 use Rattle.rules.specs.Receipts.{payments, returned, known, returnable}
-use Rattle.rules.specs.Deposit.{moves, held, required, full, fullOn}
+use Rattle.rules.specs.Deposit.{moves, held, required}
 use Rattle.rules.specs.Money.{credited, credits, charges, charge, charged, due, items, arrears}
 use Rattle.rules.specs.Arrangement.{terms, paidSince, returnedSince}
 use Rattle.rules.specs.Range.{mostDeposit, inRange}
@@ -87,28 +87,26 @@ paid-within v e r z = ltb-false (v .required - v .held) (e .amount) (simp (z, or
 pub record Held (h : History) : Type 0 where
   pub held-le : held h ≤ required h
   pub required-le : required h ≤ mostDeposit
-  pub full-le : fullOn h ≤ finalDay
 
 pub held-in : (h : History) → Lawful h → Held h
-held-in [] w = record { held-le = zero-le; required-le = zero-le; full-le = zero-le }
+held-in [] w = record { held-le = zero-le; required-le = zero-le }
 held-in (e ∷ h) w =
     let k = held-in h (w .1) in
     let p = passed h e (w .0) in
-    let day : fullOn (e ∷ h) ≤ finalDay = on (full h) (λ q. rw q (k .full-le)) (λ q. rw q (p .in-time)) in
     let paid = total-since depositPaid moves e h in
     let asked = newest-since depositAsked moves e h in
     on (moves e)
-    (λ m. record { held-le = rw (paid, asked, m) zero-le; required-le = rw (asked, m) zero-le; full-le = day })
+    (λ m. record { held-le = rw (paid, asked, m) zero-le; required-le = rw (asked, m) zero-le })
     (λ m. on-eq (e .kind) depositAsked
     (λ q z.
     let a = asked-over (viewOf h e) e (p .allowed .r7) z in
     let b = ranged depositAsked e (p .in-range) z .amount-high in
-    record { held-le = rw (paid, asked, z) (omega arith); required-le = rw (asked, z) (omega arith); full-le = day })
+    record { held-le = rw (paid, asked, z) (omega arith); required-le = rw (asked, z) (omega arith) })
     (λ q z. on-eq (e .kind) depositPaid
     (λ r y.
     let a = paid-within (viewOf h e) e (p .allowed .r7) y in
-    record { held-le = rw (paid, asked, y) (omega arith); required-le = rw (asked, y) (omega arith); full-le = day })
-    (λ r y. record { held-le = rw (paid, asked, m, q, r) (omega arith); required-le = rw (asked, m, q) (k .required-le); full-le = day })))
+    record { held-le = rw (paid, asked, y) (omega arith); required-le = rw (asked, y) (omega arith) })
+    (λ r y. record { held-le = rw (paid, asked, m, q, r) (omega arith); required-le = rw (asked, m, q) (k .required-le) })))
 
 -- ---- receipts
 -- the receipt of an accepted return is among the newest 32

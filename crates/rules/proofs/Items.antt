@@ -1,13 +1,10 @@
 -- Laws of the lists of items: what a test keeps, and sums over them.
-use Prim.Native.Nat.{ℕ, zero, suc, _+_, _*_, _≤_, _<_, zero-le}
+use Prim.Native.Nat.{ℕ, _+_, _≤_, zero-le}
 use mathlib.Core.Path.{_≡_, refl, sym, _∙_}
 use mathlib.Core.Bool.{Bool, true, false, true≢false}
-use mathlib.Core.List.{List, [], _∷_, _++_, append-nil}
-use native.Mathlib.Nat.{not-suc-le-zero, le-of-suc-le-suc, suc-mul}
-use native.Mathlib.Numerals.{add-one}
+use mathlib.Core.List.{List, [], _∷_, _++_}
 use native.Mathlib.Omega.{arith}
-use lib.ListN.{length, take, getD}
-use lib.Seq.{take-suc}
+use lib.ListN.{length}
 use Rattle.basics.specs.Lists.{every}
 use Rattle.basics.proofs.Cases.{on, never, and-left, and-right}
 use Rattle.basics.proofs.Lists.{All}
@@ -61,26 +58,3 @@ sum-keep g f h (x ∷ xs) =
 pub sum-mono : (f g : Item → ℕ) → ((x : Item) → f x ≤ g x) → (xs : List Item) → sumOf f xs ≤ sumOf g xs
 sum-mono f g h [] = zero-le
 sum-mono f g h (x ∷ xs) = omega (arith, h x, sum-mono f g h xs)
-
--- a bound on each term bounds the sum
-pub sum-le : (f : Item → ℕ) (g : Item → Bool) (b : ℕ) → ((x : Item) → g x ≡ true → f x ≤ b) → (xs : List Item) → every g xs ≡ true → sumOf f xs ≤ length xs * b
-sum-le f g b h [] e = zero-le
-sum-le f g b h (x ∷ xs) e =
-    rw suc-mul (omega (arith, h x (and-left (g x) (every g xs) e), sum-le f g b h xs (and-right (g x) (every g xs) e)))
-
-pub sum-take : (f : Item → ℕ) (i n : ℕ) (xs : List Item) → i ≤ n → sumOf f (take i xs) ≤ sumOf f (take n xs)
-sum-take f zero n xs h = zero-le
-sum-take f (suc i) zero xs h = absurd (not-suc-le-zero h)
-sum-take f (suc i) (suc n) [] h = zero-le
-sum-take f (suc i) (suc n) (x ∷ xs) h = omega (arith, sum-take f i n xs (le-of-suc-le-suc h))
-
--- ---- one more element of a list: what a loop's turn adds
-module _ (l : List Item) (i : ℕ) (d : Item) (h : i < length l) where
-  pub keep-on : (f : Item → Bool) → f (getD l i d) ≡ true → keep f (take (i + 1) l) ≡ keep f (take i l) ++ (getD l i d ∷ [])
-  keep-on f e = rw (add-one, take-suc l i d, keep-append, e)
-
-  pub keep-off : (f : Item → Bool) → f (getD l i d) ≡ false → keep f (take (i + 1) l) ≡ keep f (take i l)
-  keep-off f e = rw (add-one, take-suc l i d, keep-append, e) (append-nil _)
-
-  pub sum-step : (f : Item → ℕ) → sumOf f (take (i + 1) l) ≡ sumOf f (take i l) + f (getD l i d)
-  sum-step f = rw (add-one, take-suc l i d, sum-append) (omega arith)

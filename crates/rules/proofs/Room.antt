@@ -1,10 +1,10 @@
 -- What the table leaves room for: an event that it lets pass keeps the sums within the limit.
-use Prim.Native.Nat.{_+_, _-_, _≤_, _<_, zero-le}
+use Prim.Native.Nat.{_+_, _-_, _≤_, zero-le}
 use mathlib.Core.Path.{_≡_}
-use mathlib.Core.Bool.{true, false, cond, _&&_, _||_, or-false}
+use mathlib.Core.Bool.{false, cond, _&&_, _||_, or-false}
 use native.Mathlib.Omega.{arith}
 use lib.Dec.{ltb}
-use borrow.Author.Tests.{ltb-false, leb-false}
+use borrow.Author.Tests.{ltb-false}
 use Rattle.basics.proofs.Cases.{on, on-eq, or-left, or-right}
 use Rattle.rules.specs.declared.Event.{Event}
 use Rattle.rules.specs.declared.View.{View}
@@ -12,7 +12,7 @@ use Rattle.rules.specs.Kinds.{payment, returnedPayment, payout}
 use Rattle.rules.specs.History.{is, amountIf}
 use Rattle.rules.specs.Deposit.{moves}
 use Rattle.rules.specs.Money.{charges}
-use Rattle.rules.specs.Table.{limit, mostOpen, chargeOf, creditOf, row7}
+use Rattle.rules.specs.Table.{limit, chargeOf, creditOf, row7}
 use Rattle.rules.proofs.Sums.{no-charge, no-credit}
 use Rattle.rules.proofs.Passed.{Allowed}
 
@@ -20,7 +20,6 @@ pub record Room (v : View) (e : Event) : Type 0 where
   pub charged-room : v .charged + chargeOf v e ≤ limit
   pub credited-room : v .credited + creditOf v e ≤ limit
   pub payout-room : amountIf payout e ≤ v .credits - v .charged
-  pub count-room : charges e ≡ true → v .«open_count» < mostOpen
   pub payment-room : cond (is returnedPayment e) (v .payment) 0 ≤ limit
 
 -- a payout is at most P − C
@@ -45,6 +44,5 @@ room v e a c d =
           (λ q. ltb-false limit (v .credited + creditOf v e) (rw q at (or-right owing crediting (a .r19))))
           (λ q. let n = no-credit (v .held) e q in omega arith);
       payout-room = payout-in v e (a .r7);
-      count-room = λ q. leb-false mostOpen (v .«open_count») (rw q at (a .r18));
       payment-room = omega arith;
     }

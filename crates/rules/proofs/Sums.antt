@@ -16,10 +16,6 @@ use Rattle.rules.specs.Sums.{sumBy, lateCharges, feesCharged, returnedPa
 use Rattle.rules.proofs.Items.{sum-append}
 
 -- ---- one more event
--- the one law of the sums by kind
-pub total-step : (k : ℕ) (e : Event) (h : History) → total k (e ∷ h) ≡ total k h + amountIf k e
-total-step k e h = refl
-
 -- a sum by kind since the newest event that passes p: held, and what was paid since an arrangement
 pub total-since : (k : ℕ) (p : Event → Bool) (e : Event) (h : History)
     → total k (since p (e ∷ h)) ≡ cond (p e) 0 (total k (since p h) + amountIf k e)

@@ -1,6 +1,7 @@
 // The words of the rules: an event, the service, an answer, a charge, and what the table of refusals looks at.
 // The rules themselves are in specs/, over lists of events alone; the table as code is the crate `table`.
 pub mod kinds;
+pub mod limits;
 
 ghost use mathlib.Core.Path.{_≡_};
 ghost use Rattle.rules.specs.History.{within as Within};
@@ -8,7 +9,6 @@ ghost use Rattle.rules.specs.Service.{isOn, isOff, isClosed};
 ghost use Rattle.rules.specs.Answer.{numberOf, receiptOf};
 
 // One thing that happened to an account. specs/Kinds.antt names the sixteen kinds, specs/Range.antt the fields of each.
-#[repr(C)]
 pub struct Event {
     pub kind: u8,
     pub option: u8,
