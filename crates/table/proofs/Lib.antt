@@ -1,2 +1,3 @@
 pub mod Equations
-pub mod Debt
+pub mod ByKind
+pub mod Seen

@@ -1,1 +1,2 @@
-pub mod Debt
+pub mod ByKind
+pub mod Seen

@@ -1,5 +1,5 @@
 use mathlib.Core.Path.{refl}
-use Rattle.table.specs.Debt.{looksAtDebt}
+use Rattle.table.specs.Seen.{looksAtDebt}
 use Rattle.table.proofs.looks_at_debt.Statement.{statement}
 use Rattle.table.proofs.looks_at_debt.Tie as tie
 
