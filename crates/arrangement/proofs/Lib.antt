@@ -1,2 +1,3 @@
 pub mod Instalments
 pub mod Law
+pub mod Words

@@ -1,8 +1,9 @@
--- The arrangement that an account keeps.
+-- The arrangement that an account keeps, in five words of its memory.
 use Prim.Native.Nat.{ℕ, _+_, _*_, _≤_}
 use mathlib.Core.Bool.{Bool, cond, _&&_}
-use mathlib.Core.List.{[], _∷_}
+use mathlib.Core.List.{List, [], _∷_}
 use lib.Dec.{leb, ltb}
+use lib.ListN.{getD}
 use Rattle.rules.specs.declared.Event.{Event}
 use Rattle.rules.specs.Kinds.{payment, returnedPayment, arrangement}
 use Rattle.rules.specs.History.{History, finalDay, is, amountIf}
@@ -12,6 +13,18 @@ use Rattle.rules.specs.Arrangement.{Terms, dueBy}
 use Rattle.rules.specs.Table.{limit}
 use Rattle.arrangement.specs.declared.Arrangement.{Arrangement}
 
+-- ---- its words
+abbrev pub arrangementSize : ℕ
+arrangementSize = 5
+
+abbrev pub arrangementOn : List ℕ → Arrangement
+arrangementOn w = record { day = getD w 0 0; parts = getD w 1 0; debt = getD w 2 0; paid = getD w 3 0; returned = getD w 4 0 }
+
+-- all of them: equal parts are equal memory
+abbrev pub arrangementWords : Arrangement → List ℕ
+arrangementWords a = a .day ∷ a .parts ∷ a .debt ∷ a .paid ∷ a .returned ∷ []
+
+-- ---- its step
 abbrev pub noArrangement : Arrangement
 noArrangement = record { day = 0; parts = 0; debt = 0; paid = 0; returned = 0 }
 
@@ -31,6 +44,7 @@ unfoldable pub arrangementOf : History → Arrangement
 arrangementOf [] = noArrangement
 arrangementOf (e ∷ h) = arrangementAfter (arrangementOf h) e (arrears h (e .day)) (returnable h (e .amount))
 
+-- ---- what it tells
 abbrev pub termsBy : Arrangement → Terms
 termsBy a = record { day = a .day; parts = a .parts; debt = a .debt }
 

@@ -1,4 +1,5 @@
-// Collection, as an account keeps it: the service, the newest final notice, and the calls that a disconnection may ask for.
+// Collection, in its own words of an account's memory: the service, the newest final notice, and the calls that a
+// disconnection may ask for.
 use rules::Event;
 use rules::Service;
 use rules::kinds::CALL;
@@ -6,33 +7,52 @@ use rules::kinds::CLOSING;
 use rules::kinds::DISCONNECTION;
 use rules::kinds::FINAL_NOTICE;
 use rules::kinds::RECONNECTION;
+use rules::limits::ENOUGH;
+use rules::limits::FINAL_DAY;
 ghost use mathlib.Core.Path.{_≡_};
 ghost use mathlib.Core.Bool.{cond};
+ghost use Prim.Native.Nat.{_+_};
+ghost use lib.Dec.{eqb};
+ghost use lib.ListN.{length};
 ghost use Rattle.rules.specs.declared.Service.{Service as ServiceT};
-ghost use Rattle.rules.specs.Range.{WellFormed};
-ghost use Rattle.collection.specs.Collection.{statusAfter, noticeAfter, liveBy, inDaysBy, callsAfter, recentBy, calledBy, noCollection, collectionAfter, collectionOk};
+ghost use Rattle.rules.specs.History.{within as Within};
+ghost use Rattle.collection.specs.Collection.{serviceBy, serviceAfter, noticeAfter, liveBy, inDaysBy, callsAfter, recentBy, calledBy, collectionAfter, watched, lapsedBy, collectionOk, collectionSize, collectionOn};
 
-// The service stands in a struct of its own: a field that is an enum can't be stored to.
-pub struct Status {
-    pub service: Service,
-}
+pub const WORDS: usize = 5;
 
-// The newest final notice, and whether it lives on: no disconnection used it up and no event made it lapse.
+// The words, one after the other.
+const SERVICE: usize = 0;
+
+const NOTICE_DAY: usize = 1;
+
+const NOTICE_LIVE: usize = 2;
+
+const LAST_CALL: usize = 3;
+
+const EARLIER_CALL: usize = 4;
+
+// The word of each service.
+const ON: u64 = 0;
+
+const OFF: u64 = 1;
+
+const CLOSED: u64 = 2;
+
+// The newest final notice, and 1 while it lives on: no disconnection used it up and no event made it lapse.
 pub struct Notice {
-    pub day: u32,
-    pub live: bool,
+    pub day: u64,
+    pub live: u64,
 }
 
 // The day after the last call, and the day after the last call on an earlier day; 0 for none. A disconnection on a day can
 // ask for no other: a call on the day itself does not count, and an older one is further back.
-#[repr(C)]
 pub struct Calls {
-    pub last: u32,
-    pub earlier: u32,
+    pub last: u64,
+    pub earlier: u64,
 }
 
 pub struct Collection {
-    pub status: Status,
+    pub service: u64,
     pub notice: Notice,
     pub calls: Calls,
 }
@@ -43,25 +63,28 @@ fn select_service(c: bool, a: Service, b: Service) -> Service
     if c { a } else { b }
 }
 
-// Whether the day before `next`, if there is one, lies in t − 3 to t − 1.
-fn recent(next: u32, t: u32) -> bool
-    ensures { λ r. ⌜ r ≡ recentBy next t ⌝ }
+// Whether t lies in the days from `day` + `from` to `day` + `to`; no sum of days is made, so that it needs no bound.
+fn window(day: u64, from: u64, to: u64, t: u64) -> bool
+    ensures { λ r. ⌜ r ≡ Within (day + from) (day + to) t ⌝ }
 {
-    let n = next as u64;
-    (1 <= next) & rules::within(n, n + 2, t as u64)
+    let passed = basics::less(t, day);
+    (day <= t) & (from <= passed) & (passed <= to)
 }
 
-impl Status {
-    fn after(self, e: Event) -> Status
-        ensures { λ r. ⌜ r ≡ statusAfter self e ⌝ }
-    {
-        let k = e.kind;
-        let now = self.service;
-        let closed = select_service(k == CLOSING, Service::Closed, now);
-        let on = select_service(k == RECONNECTION, Service::On, closed);
-        let service = select_service(k == DISCONNECTION, Service::Off, on);
-        Status { service }
-    }
+// Whether the day before `next`, if there is one, lies in t − 3 to t − 1.
+fn recent(next: u64, t: u64) -> bool
+    ensures { λ r. ⌜ r ≡ recentBy next t ⌝ }
+{
+    (1 <= next) & window(next, 0, 2, t)
+}
+
+fn service_after(service: u64, e: Event) -> u64
+    ensures { λ r. ⌜ r ≡ serviceAfter service e ⌝ }
+{
+    let k = e.kind;
+    let closed = basics::select64(k == CLOSING, CLOSED, service);
+    let on = basics::select64(k == RECONNECTION, ON, closed);
+    basics::select64(k == DISCONNECTION, OFF, on)
 }
 
 impl Notice {
@@ -71,98 +94,105 @@ impl Notice {
     {
         let k = e.kind;
         let notice = k == FINAL_NOTICE;
+        let live = (notice | (self.live == 1)) & !(k == DISCONNECTION) & (ENOUGH <= arrears);
         Notice {
-            day: basics::select32(notice, e.day, self.day),
-            live: (notice | self.live) & !(k == DISCONNECTION) & (5_000 <= arrears),
+            day: basics::select64(notice, basics::wide(e.day), self.day),
+            live: basics::select64(live, 1, 0),
         }
     }
 
-    fn is_live(self, t: u32) -> bool
+    fn is_live(self, t: u64) -> bool
         ensures { λ r. ⌜ r ≡ liveBy self t ⌝ }
     {
-        let day = self.day as u64;
-        self.live & rules::within(day, day + 20, t as u64)
+        (self.live == 1) & window(self.day, 0, 20, t)
     }
 
-    fn in_days(self, t: u32) -> bool
+    fn in_days(self, t: u64) -> bool
         ensures { λ r. ⌜ r ≡ inDaysBy self t ⌝ }
     {
-        let day = self.day as u64;
-        self.live & rules::within(day + 5, day + 20, t as u64)
+        (self.live == 1) & window(self.day, 5, 20, t)
     }
 }
 
 impl Calls {
     fn after(self, e: Event) -> Calls
-        requires { ⌜ WellFormed e ⌝ }
         ensures { λ r. ⌜ r ≡ callsAfter self e ⌝ }
     {
         let k = e.kind;
         let call = k == CALL;
-        let next = e.day + 1;
-        let earlier = basics::select32(self.last == next, self.earlier, self.last);
+        let next = basics::wide(e.day) + 1;
+        let earlier = basics::select64(self.last == next, self.earlier, self.last);
         Calls {
-            last: basics::select32(call, next, self.last),
-            earlier: basics::select32(call, earlier, self.earlier),
+            last: basics::select64(call, next, self.last),
+            earlier: basics::select64(call, earlier, self.earlier),
         }
     }
 
-    fn called(self, t: u32) -> bool
+    fn called(self, t: u64) -> bool
         ensures { λ r. ⌜ r ≡ calledBy self t ⌝ }
     {
         recent(self.last, t) | recent(self.earlier, t)
     }
 }
 
+pub fn load(w: &[u64]) -> Collection
+    requires { ⌜ length (now w) ≡ collectionSize ⌝ }
+    ensures { λ r. ⌜ r ≡ collectionOn (now (w .entry)) ⌝ }
+{
+    let notice = Notice {
+        day: w[NOTICE_DAY],
+        live: w[NOTICE_LIVE],
+    };
+    let calls = Calls {
+        last: w[LAST_CALL],
+        earlier: w[EARLIER_CALL],
+    };
+    Collection {
+        service: w[SERVICE],
+        notice,
+        calls,
+    }
+}
+
 impl Collection {
-    pub fn fresh() -> Collection
-        ensures { λ r. ⌜ r ≡ noCollection ⌝ }
+    pub fn store(self, w: &mut [u64])
+        requires { ⌜ length (now w) ≡ collectionSize ⌝ }
+        ensures { λ _. ⌜ collectionOn (now (w .exit)) ≡ self ⌝ }
     {
-        let status = Status {
-            service: Service::On,
-        };
-        let notice = Notice {
-            day: 0,
-            live: false,
-        };
-        let calls = Calls {
-            last: 0,
-            earlier: 0,
-        };
-        Collection {
-            status,
-            notice,
-            calls,
-        }
+        let n = self.notice;
+        let c = self.calls;
+        w[SERVICE] = self.service;
+        w[NOTICE_DAY] = n.day;
+        w[NOTICE_LIVE] = n.live;
+        w[LAST_CALL] = c.last;
+        w[EARLIER_CALL] = c.earlier;
     }
 
     // What it becomes when the event is accepted; `arrears` are those after the event, on its day.
-    pub fn after(self, e: Event, arrears: u64) -> Collection
-        requires { ⌜ WellFormed e ⌝ }
+    fn after(self, e: Event, arrears: u64) -> Collection
         ensures { λ r. ⌜ r ≡ collectionAfter self e arrears ⌝ }
     {
-        let s = self.status;
         let n = self.notice;
         let c = self.calls;
-        let status = s.after(e);
+        let service = service_after(self.service, e);
         let notice = n.after(e, arrears);
         let calls = c.after(e);
         Collection {
-            status,
+            service,
             notice,
             calls,
         }
     }
 
     pub fn service(self) -> Service
-        ensures { λ r. ⌜ r ≡ self .status .service ⌝ }
+        ensures { λ r. ⌜ r ≡ serviceBy (self .service) ⌝ }
     {
-        let s = self.status;
-        s.service
+        let not_on = select_service(self.service == OFF, Service::Off, Service::Closed);
+        select_service(self.service == ON, Service::On, not_on)
     }
 
     // Whether a final notice is live on day t.
-    pub fn notice_live(self, t: u32) -> bool
+    pub fn notice_live(self, t: u64) -> bool
         ensures { λ r. ⌜ r ≡ liveBy (self .notice) t ⌝ }
     {
         let n = self.notice;
@@ -170,7 +200,7 @@ impl Collection {
     }
 
     // Whether day t is one of the days of a live notice on which a disconnection is allowed.
-    pub fn notice_in_days(self, t: u32) -> bool
+    pub fn notice_in_days(self, t: u64) -> bool
         ensures { λ r. ⌜ r ≡ inDaysBy (self .notice) t ⌝ }
     {
         let n = self.notice;
@@ -178,19 +208,71 @@ impl Collection {
     }
 
     // Whether there was a call on some day from t − 3 to t − 1.
-    pub fn called(self, t: u32) -> bool
+    pub fn called(self, t: u64) -> bool
         ensures { λ r. ⌜ r ≡ calledBy (self .calls) t ⌝ }
     {
         let c = self.calls;
         c.called(t)
     }
 
-    // The test: days in range, and the calls in order.
+    // The test: a service that there is, a mark of the notice that is 0 or 1, days in range, and the calls in order.
     pub fn ok(self) -> bool
         ensures { λ r. ⌜ r ≡ collectionOk self ⌝ }
     {
         let n = self.notice;
         let c = self.calls;
-        (n.day <= 73_048) & (c.last <= 73_049) & (c.earlier <= c.last)
+        (self.service <= CLOSED)
+            & (n.live <= 1)
+            & (n.day <= FINAL_DAY)
+            & (c.last <= FINAL_DAY + 1)
+            & (c.earlier <= c.last)
+    }
+}
+
+// Whether there is a notice after the event that low arrears would make lapse: where there is none, nobody need count them.
+pub fn watches(w: &[u64], e: Event) -> bool
+    requires { ⌜ length (now w) ≡ collectionSize ⌝ }
+    ensures { λ r. ⌜ r ≡ watched (collectionOn (now (w .entry))) e ⌝ }
+{
+    (e.kind == FINAL_NOTICE) | (w[NOTICE_LIVE] == 1)
+}
+
+// Whether there is no notice that an event could make lapse.
+pub fn quiet(w: &[u64]) -> bool
+    requires { ⌜ length (now w) ≡ collectionSize ⌝ }
+    ensures { λ r. ⌜ r ≡ eqb (collectionOn (now (w .entry)) .notice .live) 0 ⌝ }
+{
+    w[NOTICE_LIVE] == 0
+}
+
+// An event that is none of collection's can only make a notice lapse.
+pub fn lapse(w: &mut [u64], arrears: u64)
+    requires { ⌜ length (now w) ≡ collectionSize ⌝ }
+    ensures { λ _. ⌜ collectionOn (now (w .exit)) ≡ lapsedBy (collectionOn (now (w .entry))) arrears ⌝ }
+{
+    let live = w[NOTICE_LIVE];
+    if live != 0 {
+        w[NOTICE_LIVE] = basics::select64((live == 1) & (ENOUGH <= arrears), 1, 0);
+    }
+}
+
+fn change(w: &mut [u64], e: Event, arrears: u64)
+    requires { ⌜ length (now w) ≡ collectionSize ⌝ }
+    ensures { λ _. ⌜ collectionOn (now (w .exit)) ≡ collectionAfter (collectionOn (now (w .entry))) e arrears ⌝ }
+{
+    let before = load(w);
+    let c = before.after(e, arrears);
+    c.store(w);
+}
+
+// The event is accepted; `arrears` are those after it, on its day.
+pub fn step(w: &mut [u64], e: Event, arrears: u64)
+    requires { ⌜ length (now w) ≡ collectionSize ⌝ }
+    ensures { λ _. ⌜ collectionOn (now (w .exit)) ≡ collectionAfter (collectionOn (now (w .entry))) e arrears ⌝ }
+{
+    if e.kind < FINAL_NOTICE {
+        lapse(w, arrears);
+    } else {
+        change(w, e, arrears);
     }
 }

@@ -6,7 +6,7 @@ use mathlib.Core.List.{[], _∷_}
 use native.Mathlib.Omega.{arith}
 use lib.Dec.{leb}
 use borrow.Author.Tests.{le-leb, leb-true}
-use Rattle.basics.proofs.Cases.{links}
+use Rattle.basics.proofs.Cases.{on, links}
 use Rattle.rules.specs.Kinds.{depositAsked, depositPaid}
 use Rattle.rules.specs.History.{History, finalDay, lastPosted}
 use Rattle.rules.specs.Deposit.{moves, held, required, full, fullOn, earned}
@@ -18,9 +18,10 @@ use Rattle.deposit.specs.declared.Deposit.{Deposit}
 use Rattle.deposit.specs.Conduct.{conductOf, conductOk}
 use Rattle.deposit.specs.Deposit.{depositAfter, depositOf, earnedBy, depositOk, DepositFit}
 use Rattle.deposit.proofs.Windows.{kept, quiet-is}
+use Rattle.deposit.proofs.Full.{paidOn, paid-in, full-is}
 
--- whatever the history, the part holds the rules' values
-deposit-is : (h : History) → depositOf h ≡ record { held = held h; required = required h; «full_on» = fullOn h; conduct = conductOf h }
+-- whatever the history, the part holds the rules' values, and the day of the newest deposit paid
+pub deposit-is : (h : History) → depositOf h ≡ record { held = held h; required = required h; «full_on» = paidOn h; conduct = conductOf h }
 unfolding depositOf conductOf
 deposit-is [] = refl
 deposit-is (e ∷ h) =
@@ -33,10 +34,14 @@ conduct-ok h w =
     let d = in-days h w in
     simp (le-leb (conductOf h .first) (finalDay + 1) (omega arith), le-leb _ _ (k .two), le-leb _ _ (k .three), le-leb (conductOf h .cut) (finalDay + 1) (omega arith))
 
+-- full for 365 days
+long-is : (h : History) → Lawful h → (t : ℕ) → (full h && leb (paidOn h + 365) t) ≡ (full h && leb (fullOn h + 365) t)
+long-is h w t = on (full h) (λ f. rw (full-is h w f)) (λ f. rw f)
+
 pub record DepositLaw (h : History) : Type 0 where
   pub held-is : depositOf h .held ≡ held h
   pub required-is : depositOf h .required ≡ required h
-  pub full-is : depositOf h .«full_on» ≡ fullOn h
+  pub full-is : full h ≡ true → depositOf h .«full_on» ≡ fullOn h
   pub earned-is : (t : ℕ) → lastPosted h ≤ t → earnedBy (depositOf h) t ≡ earned h t
   pub passes : depositOk (depositOf h) ≡ true
 
@@ -46,9 +51,9 @@ deposit-law h w =
     record {
       held-is = rw (deposit-is h);
       required-is = rw (deposit-is h);
-      full-is = rw (deposit-is h);
-      earned-is = λ t l. rw (deposit-is h, quiet-is h t (sorted h w) l) (sym (and-assoc (full h && leb (fullOn h + 365) t) _ _));
-      passes = rw (deposit-is h) (simp (le-leb _ _ (k .held-le), le-leb _ _ (k .required-le), le-leb _ _ (k .full-le), conduct-ok h w));
+      full-is = λ f. rw (deposit-is h) (full-is h w f);
+      earned-is = λ t l. rw (deposit-is h, quiet-is h t (sorted h w) l, long-is h w t) (sym (and-assoc (full h && leb (fullOn h + 365) t) _ _));
+      passes = rw (deposit-is h) (simp (le-leb _ _ (k .held-le), le-leb _ _ (k .required-le), le-leb _ _ (paid-in h w), conduct-ok h w));
     }
 
 -- what the test tells

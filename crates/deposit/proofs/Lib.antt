@@ -1,2 +1,5 @@
 pub mod Windows
+pub mod Full
 pub mod Law
+pub mod Words
+pub mod Passing

@@ -1,5 +1,5 @@
-// The deposit, as an account keeps it: what is held and required, since when it is full, and the final notices and
-// disconnections of the last year, which bar its return.
+// The deposit, in its own words of an account's memory: what is held and required, since when it is full, and the final notices
+// and disconnections of the last year, which bar its return.
 use rules::Event;
 use rules::kinds::CLOSING;
 use rules::kinds::DEPOSIT_ASKED;
@@ -7,92 +7,126 @@ use rules::kinds::DEPOSIT_MOVED;
 use rules::kinds::DEPOSIT_PAID;
 use rules::kinds::DISCONNECTION;
 use rules::kinds::FINAL_NOTICE;
+use rules::limits::FINAL_DAY;
 ghost use mathlib.Core.Path.{_≡_};
+ghost use lib.ListN.{length};
 ghost use Rattle.rules.specs.Range.{WellFormed};
-ghost use Rattle.deposit.specs.Deposit.{isFull, noDeposit, depositAfter, depositOk, DepositFit, earnedBy};
-ghost use Rattle.deposit.specs.Conduct.{noConduct, conductAfter, inYearBy, quietBy, conductOk};
+ghost use Rattle.deposit.specs.Deposit.{isFull, depositAfter, concerns as Concerns, depositOk, DepositFit, earnedBy, depositSize, depositOn};
+ghost use Rattle.deposit.specs.Conduct.{conductAfter, inYearBy, quietBy, conductOk};
+
+pub const WORDS: usize = 7;
+
+// The words, one after the other.
+const HELD: usize = 0;
+
+const REQUIRED: usize = 1;
+
+const FULL_ON: usize = 2;
+
+const FIRST: usize = 3;
+
+const SECOND: usize = 4;
+
+const THIRD: usize = 5;
+
+const CUT: usize = 6;
+
+// A deposit is earned when it was full for so many days.
+const FULL_FOR: u64 = 365;
+
+// From the day after an event to the last of the 365 days in which it bars a return.
+const BARS_FOR: u64 = 363;
+
+const MOST_DEPOSIT: u64 = 100_000_000;
 
 // The days after the three newest final notices, newest first, and the day after the newest disconnection; 0 for none.
 // A third notice within the year is one too many, so older ones are never asked for.
-#[repr(C)]
 pub struct Conduct {
-    pub first: u32,
-    pub second: u32,
-    pub third: u32,
-    pub cut: u32,
+    pub first: u64,
+    pub second: u64,
+    pub third: u64,
+    pub cut: u64,
 }
 
 pub struct Deposit {
     pub held: u64,
     pub required: u64,
-    // Of a full deposit, the day on which held and required became equal.
-    pub full_on: u32,
+    // The day of the newest deposit paid: of a full deposit, the day on which held and required became equal.
+    pub full_on: u64,
     pub conduct: Conduct,
 }
 
 // Whether the day before `next`, if there is one, lies in the 365 days up to t.
-fn in_year(next: u32, t: u32) -> bool
+fn in_year(next: u64, t: u64) -> bool
     ensures { λ r. ⌜ r ≡ inYearBy next t ⌝ }
 {
-    (1 <= next) & ((t as u64) <= (next as u64) + 363)
+    (1 <= next) & (basics::less(t, next) <= BARS_FOR)
 }
 
 impl Conduct {
-    pub fn fresh() -> Conduct
-        ensures { λ r. ⌜ r ≡ noConduct ⌝ }
-    {
-        Conduct {
-            first: 0,
-            second: 0,
-            third: 0,
-            cut: 0,
-        }
-    }
-
     // What it becomes when the event is accepted.
-    pub fn after(self, e: Event) -> Conduct
-        requires { ⌜ WellFormed e ⌝ }
+    fn after(self, e: Event) -> Conduct
         ensures { λ r. ⌜ r ≡ conductAfter self e ⌝ }
     {
         let k = e.kind;
         let notice = k == FINAL_NOTICE;
-        let next = e.day + 1;
+        let next = basics::wide(e.day) + 1;
         Conduct {
-            first: basics::select32(notice, next, self.first),
-            second: basics::select32(notice, self.first, self.second),
-            third: basics::select32(notice, self.second, self.third),
-            cut: basics::select32(k == DISCONNECTION, next, self.cut),
+            first: basics::select64(notice, next, self.first),
+            second: basics::select64(notice, self.first, self.second),
+            third: basics::select64(notice, self.second, self.third),
+            cut: basics::select64(k == DISCONNECTION, next, self.cut),
         }
     }
 
     // Whether there were at most two notices, and no disconnection, in the 365 days up to t.
-    pub fn quiet(self, t: u32) -> bool
+    fn quiet(self, t: u64) -> bool
         ensures { λ r. ⌜ r ≡ quietBy self t ⌝ }
     {
         !in_year(self.third, t) & !in_year(self.cut, t)
     }
 
-    pub fn ok(self) -> bool
+    fn ok(self) -> bool
         ensures { λ r. ⌜ r ≡ conductOk self ⌝ }
     {
-        (self.first <= 73_049)
+        (self.first <= FINAL_DAY + 1)
             & (self.second <= self.first)
             & (self.third <= self.second)
-            & (self.cut <= 73_049)
+            & (self.cut <= FINAL_DAY + 1)
+    }
+}
+
+pub fn load(w: &[u64]) -> Deposit
+    requires { ⌜ length (now w) ≡ depositSize ⌝ }
+    ensures { λ r. ⌜ r ≡ depositOn (now (w .entry)) ⌝ }
+{
+    let conduct = Conduct {
+        first: w[FIRST],
+        second: w[SECOND],
+        third: w[THIRD],
+        cut: w[CUT],
+    };
+    Deposit {
+        held: w[HELD],
+        required: w[REQUIRED],
+        full_on: w[FULL_ON],
+        conduct,
     }
 }
 
 impl Deposit {
-    pub fn fresh() -> Deposit
-        ensures { λ r. ⌜ r ≡ noDeposit ⌝ }
+    pub fn store(self, w: &mut [u64])
+        requires { ⌜ length (now w) ≡ depositSize ⌝ }
+        ensures { λ _. ⌜ depositOn (now (w .exit)) ≡ self ⌝ }
     {
-        let conduct = Conduct::fresh();
-        Deposit {
-            held: 0,
-            required: 0,
-            full_on: 0,
-            conduct,
-        }
+        let conduct = self.conduct;
+        w[HELD] = self.held;
+        w[REQUIRED] = self.required;
+        w[FULL_ON] = self.full_on;
+        w[FIRST] = conduct.first;
+        w[SECOND] = conduct.second;
+        w[THIRD] = conduct.third;
+        w[CUT] = conduct.cut;
     }
 
     pub fn is_full(self) -> bool
@@ -102,32 +136,32 @@ impl Deposit {
     }
 
     // What it becomes when the event is accepted.
-    pub fn after(self, e: Event) -> Deposit
+    fn after(self, e: Event) -> Deposit
         requires { ⌜ DepositFit self ⌝ }
         requires { ⌜ WellFormed e ⌝ }
         ensures { λ r. ⌜ r ≡ depositAfter self e ⌝ }
     {
         let k = e.kind;
         let moves = (k == DEPOSIT_MOVED) | (k == CLOSING);
-        let held = self.held + basics::select64(k == DEPOSIT_PAID, e.amount, 0);
+        let paid = k == DEPOSIT_PAID;
+        let held = self.held + basics::select64(paid, e.amount, 0);
         let asked = basics::select64(k == DEPOSIT_ASKED, e.amount, self.required);
-        let full = self.is_full();
         let before = self.conduct;
         let conduct = before.after(e);
         Deposit {
             held: basics::select64(moves, 0, held),
             required: basics::select64(moves, 0, asked),
-            full_on: basics::select32(full, self.full_on, e.day),
+            full_on: basics::select64(paid, basics::wide(e.day), self.full_on),
             conduct,
         }
     }
 
     // Whether it is earned on day t.
-    pub fn earned(self, t: u32) -> bool
+    pub fn earned(self, t: u64) -> bool
         ensures { λ r. ⌜ r ≡ earnedBy self t ⌝ }
     {
         let conduct = self.conduct;
-        self.is_full() & ((self.full_on as u64) + 365 <= (t as u64)) & conduct.quiet(t)
+        self.is_full() & (FULL_FOR <= basics::less(t, self.full_on)) & conduct.quiet(t)
     }
 
     pub fn ok(self) -> bool
@@ -135,8 +169,42 @@ impl Deposit {
     {
         let conduct = self.conduct;
         (self.held <= self.required)
-            & (self.required <= 100_000_000)
-            & (self.full_on <= 73_048)
+            & (self.required <= MOST_DEPOSIT)
+            & (self.full_on <= FINAL_DAY)
             & conduct.ok()
+    }
+}
+
+// Whether the event is of a kind that changes the part.
+fn concerns(e: Event) -> bool
+    ensures { λ r. ⌜ r ≡ Concerns e ⌝ }
+{
+    let k = e.kind;
+    ((DEPOSIT_ASKED <= k) & (k <= DEPOSIT_MOVED))
+        | (k == FINAL_NOTICE)
+        | (k == DISCONNECTION)
+        | (k == CLOSING)
+}
+
+fn change(w: &mut [u64], e: Event)
+    requires { ⌜ length (now w) ≡ depositSize ⌝ }
+    requires { ⌜ DepositFit (depositOn (now w)) ⌝ }
+    requires { ⌜ WellFormed e ⌝ }
+    ensures { λ _. ⌜ depositOn (now (w .exit)) ≡ depositAfter (depositOn (now (w .entry))) e ⌝ }
+{
+    let before = load(w);
+    let d = before.after(e);
+    d.store(w);
+}
+
+// The event is accepted.
+pub fn step(w: &mut [u64], e: Event)
+    requires { ⌜ length (now w) ≡ depositSize ⌝ }
+    requires { ⌜ DepositFit (depositOn (now w)) ⌝ }
+    requires { ⌜ WellFormed e ⌝ }
+    ensures { λ _. ⌜ depositOn (now (w .exit)) ≡ depositAfter (depositOn (now (w .entry))) e ⌝ }
+{
+    if concerns(e) {
+        change(w, e);
     }
 }

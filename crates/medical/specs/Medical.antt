@@ -1,13 +1,26 @@
--- The certificates and approvals that an account keeps.
+-- The certificates and approvals that an account keeps, in two words of its memory.
 use Prim.Native.Nat.{ℕ, _+_, max}
 use mathlib.Core.Bool.{Bool, cond, _&&_}
-use mathlib.Core.List.{[], _∷_}
+use mathlib.Core.List.{List, [], _∷_}
 use lib.Dec.{leb, ltb}
+use lib.ListN.{getD}
 use Rattle.rules.specs.declared.Event.{Event}
 use Rattle.rules.specs.Kinds.{certificate, approval}
 use Rattle.rules.specs.History.{History, finalDay, is}
 use Rattle.medical.specs.declared.Medical.{Medical}
 
+-- ---- its words
+abbrev pub medicalSize : ℕ
+medicalSize = 2
+
+abbrev pub medicalOn : List ℕ → Medical
+medicalOn w = record { «certified_to» = getD w 0 0; «approved_to» = getD w 1 0 }
+
+-- all of them: equal parts are equal memory
+abbrev pub medicalWords : Medical → List ℕ
+medicalWords m = m .«certified_to» ∷ m .«approved_to» ∷ []
+
+-- ---- its step
 abbrev pub noMedical : Medical
 noMedical = record { «certified_to» = 0; «approved_to» = 0 }
 
@@ -24,6 +37,7 @@ unfoldable pub medicalOf : History → Medical
 medicalOf [] = noMedical
 medicalOf (e ∷ h) = medicalAfter (medicalOf h) e
 
+-- ---- what it tells
 abbrev pub certifiedBy : Medical → ℕ → Bool
 certifiedBy m t = ltb t (m .«certified_to»)
 

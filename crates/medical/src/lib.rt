@@ -1,16 +1,27 @@
-// Medical certificates and the superintendent's approvals, as an account keeps them.
+// Medical certificates and the superintendent's approvals, as an account keeps them: two words of its memory.
 use rules::Event;
 use rules::kinds::APPROVAL;
 use rules::kinds::CERTIFICATE;
 ghost use mathlib.Core.Path.{_≡_};
 ghost use mathlib.Core.Bool.{true, cond};
 ghost use Prim.Native.Nat.{_+_, _≤_};
+ghost use lib.ListN.{length};
 ghost use Rattle.rules.specs.Range.{WellFormed};
-ghost use Rattle.medical.specs.Medical.{noMedical, medicalAfter, certifiedBy, approvedBy, medicalOk};
+ghost use Rattle.medical.specs.Medical.{medicalSize, medicalOn, medicalAfter, certifiedBy, approvedBy, medicalOk};
+
+pub const WORDS: usize = 2;
+
+const CERTIFIED_TO: usize = 0;
+
+const APPROVED_TO: usize = 1;
+
+// The last day, 73,048, with the longest certificate and the longest approval.
+const LAST_CERTIFIED: u64 = 73_228;
+
+const LAST_APPROVED: u64 = 73_078;
 
 // The day past the end of the certificate that ends last, and of the approval that ends last among those posted after the
 // newest certificate; 0 for none. No later day can ask for more.
-#[repr(C)]
 pub struct Medical {
     pub certified_to: u64,
     pub approved_to: u64,
@@ -21,17 +32,41 @@ fn end_of(wanted: bool, e: Event) -> u64
     requires { ⌜ (wanted ≡ true → e .amount ≤ 180) ⌝ }
     ensures { λ r. ⌜ r ≡ cond wanted (e .day + e .amount) 0 ⌝ }
 {
-    if wanted { (e.day as u64) + e.amount } else { 0 }
+    if wanted {
+        basics::wide(e.day) + e.amount
+    } else {
+        0
+    }
+}
+
+pub fn load(w: &[u64]) -> Medical
+    requires { ⌜ length (now w) ≡ medicalSize ⌝ }
+    ensures { λ r. ⌜ r ≡ medicalOn (now (w .entry)) ⌝ }
+{
+    Medical {
+        certified_to: w[CERTIFIED_TO],
+        approved_to: w[APPROVED_TO],
+    }
+}
+
+// An accepted event, in place. Kinds that do not concern the part touch nothing.
+pub fn step(w: &mut [u64], e: Event)
+    requires { ⌜ (length (now w) ≡ medicalSize) × WellFormed e ⌝ }
+    ensures { λ _. ⌜ medicalOn (now (w .exit)) ≡ medicalAfter (medicalOn (now (w .entry))) e ⌝ }
+{
+    if (e.kind == CERTIFICATE) | (e.kind == APPROVAL) {
+        let next = load(w).after(e);
+        next.store(w);
+    }
 }
 
 impl Medical {
-    pub fn fresh() -> Medical
-        ensures { λ r. ⌜ r ≡ noMedical ⌝ }
+    pub fn store(self, w: &mut [u64])
+        requires { ⌜ length (now w) ≡ medicalSize ⌝ }
+        ensures { λ _. ⌜ medicalOn (now (w .exit)) ≡ self ⌝ }
     {
-        Medical {
-            certified_to: 0,
-            approved_to: 0,
-        }
+        w[CERTIFIED_TO] = self.certified_to;
+        w[APPROVED_TO] = self.approved_to;
     }
 
     // What it becomes when the event is accepted.
@@ -50,23 +85,23 @@ impl Medical {
     }
 
     // Whether a certificate is live on day t.
-    pub fn certified(self, t: u32) -> bool
+    pub fn certified(self, t: u64) -> bool
         ensures { λ r. ⌜ r ≡ certifiedBy self t ⌝ }
     {
-        (t as u64) < self.certified_to
+        t < self.certified_to
     }
 
     // Whether an approval posted after the last certificate covers day t.
-    pub fn approved(self, t: u32) -> bool
+    pub fn approved(self, t: u64) -> bool
         ensures { λ r. ⌜ r ≡ approvedBy self t ⌝ }
     {
-        (t as u64) < self.approved_to
+        t < self.approved_to
     }
 
     // The test: both ends are days that an event in range can set.
     pub fn ok(self) -> bool
         ensures { λ r. ⌜ r ≡ medicalOk self ⌝ }
     {
-        (self.certified_to <= 73_228) & (self.approved_to <= 73_078)
+        (self.certified_to <= LAST_CERTIFIED) & (self.approved_to <= LAST_APPROVED)
     }
 }

@@ -17,8 +17,7 @@ use Rattle.rules.specs.Accepted.{Lawful}
 use Rattle.rules.proofs.Days.{within-true}
 use Rattle.rules.proofs.Passed.{passed}
 use Rattle.rules.proofs.Bounds.{return-known, not-yet, count-limit}
-use Rattle.receipts.specs.declared.Receipts.{Receipts}
-use Rattle.receipts.specs.Receipts.{receiptsOf, paymentBy, receiptsOk, ReceiptsFit}
+use Rattle.receipts.specs.Receipts.{Receipts, receiptsOf, paymentBy, receiptsOk, ReceiptsFit}
 
 -- ---- a place, before and after: pays are the payments, newest first, n how many, R the returned ones
 abbrev Placed : List ℕ → List ℕ → ℕ → (ℕ → Bool) → Type 0
@@ -85,12 +84,14 @@ payment-is h w r =
 pub record ReceiptsLaw (h : History) : Type 0 where
   pub count-is : receiptsOf h .count ≡ length (payments h)
   pub payment-is : (r : ℕ) → paymentBy (receiptsOf h) r ≡ returnable h r
+  pub size : length (receiptsOf h .recent) ≡ 32
   pub passes : receiptsOk (receiptsOf h) ≡ true
 
 pub receipts-law : (h : History) → Lawful h → ReceiptsLaw h
 receipts-law h w = record {
   count-is = count-is h;
   payment-is = payment-is h w;
+  size = full-length h;
   passes = rw (count-is h) (le-leb _ _ (count-limit h w));
 }
 

@@ -1,15 +1,14 @@
-use mathlib.Core.Path.{refl}
 use borrow.Author.Needs.{needs}
 use Rattle.deposit.specs.Conduct.{inYearBy}
+use Rattle.deposit.proofs.Passing.{at-most-since}
 use Rattle.deposit.proofs.in_year.Statement.{statement}
 use Rattle.deposit.proofs.in_year.Tie as tie
 
-add-result : tie.Need-add-result
-add-result c = search needs
-
 returns : tie.Need-returns
 unfolding inYearBy
-returns c = refl
+returns c = rw (c .less .ensures, at-most-since)
 
 pub in-year-spec : {M : Type 1} → statement M
-in-year-spec = tie.close (tie.spec add-result returns)
+in-year-spec =
+    tie.close
+    (tie.spec (λ c κs. search needs) returns)

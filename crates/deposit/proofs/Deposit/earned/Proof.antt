@@ -1,21 +1,15 @@
+use native.Mathlib.Omega.{arith}
 use borrow.Author.Needs.{needs}
+use Rattle.deposit.proofs.Passing.{at-least-since}
 use Rattle.deposit.proofs.Deposit.earned.Statement.{statement}
 use Rattle.deposit.proofs.Deposit.earned.Tie as tie
 
-is-full-requires : tie.Need-is-full-requires
-is-full-requires c κs = search needs
-
-cast-result : tie.Need-cast-result
-cast-result c = search needs
-
-add-result : tie.Need-add-result
-add-result c = search needs
-
-quiet-requires : tie.Need-quiet-requires
-quiet-requires c κs = search needs
-
 returns : tie.Need-returns
-returns c = cc
+returns c =
+    let s = c .before .before .before .before .args in
+    rw (c .quiet .ensures, c .before .less .ensures, at-least-since (s .self .«full_on») 365 (s .t) (omega arith), c .before .before .is-full .ensures)
 
 pub earned-spec : {M : Type 1} → statement M
-earned-spec = tie.close (tie.spec is-full-requires cast-result add-result quiet-requires returns)
+earned-spec =
+    tie.close
+    (tie.spec (λ c κs. search needs) (λ c κs. search needs) (λ c κs. search needs) returns)

@@ -2,11 +2,10 @@ use borrow.Author.Needs.{needs}
 use Rattle.deposit.proofs.Deposit.ok.Statement.{statement}
 use Rattle.deposit.proofs.Deposit.ok.Tie as tie
 
-ok-requires : tie.Need-ok-requires
-ok-requires c κs = search needs
-
 returns : tie.Need-returns
 returns c = cc
 
 pub ok-spec : {M : Type 1} → statement M
-ok-spec = tie.close (tie.spec ok-requires returns)
+ok-spec =
+    tie.close
+    (tie.spec (λ c κs. search needs) returns)

@@ -9,17 +9,8 @@ use Rattle.medical.proofs.Medical.after.Tie as tie
 end-of-requires : tie.Need-end-of-requires
 end-of-requires c κs = λ q. ranged certificate (c .args .e) (c .pre .in-range) (eqb-true _ _ q) .amount-high
 
-greater-requires : tie.Need-greater-requires
-greater-requires c κs = search needs
-
 end-of-requires-2 : tie.Need-end-of-requires-2
 end-of-requires-2 c κs = λ q. let a = ranged approval (c .before .before .args .e) (c .before .before .pre .in-range) (eqb-true _ _ q) .amount-high in omega arith
-
-greater-requires-2 : tie.Need-greater-requires-2
-greater-requires-2 c κs = search needs
-
-select64-requires : tie.Need-select64-requires
-select64-requires c κs = search needs
 
 returns : tie.Need-returns
 returns c = cc
@@ -27,10 +18,5 @@ returns c = cc
 pub after-spec : {M : Type 1} → statement M
 after-spec =
     tie.close
-    (tie.spec
-    end-of-requires
-    greater-requires
-    end-of-requires-2
-    greater-requires-2
-    select64-requires
+    (tie.spec end-of-requires (λ c κs. search needs) end-of-requires-2 (λ c κs. search needs) (λ c κs. search needs)
     returns)
