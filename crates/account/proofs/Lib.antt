@@ -1,6 +1,5 @@
-pub mod Laws
-pub mod Compose
-pub mod Demand
+pub mod Words
+pub mod Exits
 pub mod Steps
-pub mod Answers
-pub mod Walk
+pub mod Others
+pub mod OwnWays

@@ -1,119 +1,173 @@
--- What the proofs of the account's functions cite.
-use Prim.Native.Nat.{ℕ, _-_, min}
-use mathlib.Core.Path.{_≡_, refl, sym, ap, _∙_}
-use mathlib.Core.Bool.{Bool, true, false, cond, not}
-use mathlib.Core.List.{[], _∷_}
+-- What the proofs of an accepted event cite: what each step asks, and the account after the parts' spans came back.
+use Prim.Native.Nat.{ℕ, _+_}
+use mathlib.Core.Path.{_≡_, refl, sym, ap, subst, _∙_}
+use mathlib.Core.Bool.{cond}
+use mathlib.Core.List.{List, [], _∷_}
 use native.Mathlib.Omega.{arith}
-use lib.Dec.{leb, ltb, eqb}
-use borrow.Author.Tests.{ltb-false, eqb-false, ne-eqb, not-false}
-use Rattle.basics.specs.Machine.{largest}
-use Rattle.basics.proofs.Cases.{links}
+use lib.ListN.{length, getD}
+use Rattle.basics.proofs.Cases.{on}
+use Rattle.span.proofs.Parts.{part, back, here, then}
 use Rattle.rules.specs.declared.Event.{Event}
 use Rattle.rules.specs.declared.View.{View}
-use Rattle.rules.specs.History.{finalDay}
+use Rattle.rules.specs.Kinds.{payment, returnedPayment, arrangement}
+use Rattle.rules.specs.History.{is}
 use Rattle.rules.specs.Money.{charges}
-use Rattle.rules.specs.Range.{inRange, WellFormed}
-use Rattle.rules.specs.Table.{chargeOf, creditOf, refusalBy}
-use Rattle.rules.specs.Accepted.{dayRows}
-use Rattle.rules.proofs.Passed.{allowed, skipped}
+use Rattle.rules.specs.Table.{chargeOf, creditOf}
+use Rattle.rules.proofs.Passed.{allowed}
 use Rattle.rules.proofs.Room.{Room, room}
-use Rattle.ledger.specs.Ledger.{ledgerOk, LedgerRoom}
-use Rattle.receipts.specs.Receipts.{receiptsOk}
-use Rattle.deposit.specs.Deposit.{depositOk}
-use Rattle.collection.specs.Collection.{collectionOk}
-use Rattle.medical.specs.Medical.{medicalOk}
-use Rattle.arrangement.specs.Arrangement.{arrangementOk}
-use Rattle.ledger.proofs.Steps.{ledger-fit}
-use Rattle.receipts.proofs.Law.{receipts-fit}
-use Rattle.deposit.proofs.Law.{deposit-fit}
-use Rattle.arrangement.proofs.Law.{arrangement-fit}
-use Rattle.account.specs.declared.Account.{Account}
-use Rattle.account.specs.Account.{accountOk, AccountFit, view, Passing}
-use Rattle.account.specs.Post.{refusalAt, refusedBy, acceptedBy, judged, posted}
-
--- ---- what the test tells
-pub account-fit : (a : Account) → accountOk a ≡ true → AccountFit a
-unfolding accountOk
-account-fit a e =
-    let r = links (leb (a .last) finalDay) (ledgerOk (a .ledger) ∷ receiptsOk (a .receipts) ∷ depositOk (a .deposit) ∷ collectionOk (a .collection) ∷ medicalOk (a .medical) ∷ arrangementOk (a .arrangement) ∷ []) e in
-    record {
-      ledger-fit = ledger-fit (a .ledger) (r .1 .0);
-      receipts-fit = receipts-fit (a .receipts) (r .1 .1 .0);
-      deposit-fit = deposit-fit (a .deposit) (r .1 .1 .1 .0);
-      arrangement-fit = arrangement-fit (a .arrangement) (r .1 .1 .1 .1 .1 .1 .0);
-    }
+use Rattle.table.specs.Seen.{seenOf}
+use Rattle.table.proofs.Seen.{charge-seen, credit-seen, debt-seen, payment-seen}
+use Rattle.collection.specs.Collection.{collectionSize, collectionOn, collectionAfter, watched}
+use Rattle.collection.proofs.Words.{collection-watched}
+use Rattle.deposit.specs.Deposit.{depositSize, depositOn, depositAfter, DepositFit}
+use Rattle.medical.specs.Medical.{medicalSize, medicalOn, medicalAfter}
+use Rattle.arrangement.specs.declared.Arrangement.{Arrangement}
+use Rattle.arrangement.specs.Arrangement.{arrangementSize, arrangementOn, arrangementAfter}
+use Rattle.receipts.specs.Receipts.{receiptsSize, receiptsOn, receiptsAfter}
+use Rattle.ledger.specs.Ledger.{ledgerSize, ledgerOn, arrearsBy, ledgerAfter, LedgerRoom}
+use Rattle.ledger.proofs.Test.{ledger-room}
+use Rattle.account.specs.State.{State, sizes, accountSize, stateOf, stateOn, view, moneyAfter, fileAfter, serviceAfter, applied}
+use Rattle.account.specs.Post.{receiptAt}
+use Rattle.account.specs.Looks.{Became, Passing}
 
 -- ---- an event that passes has room
-pub passing-room : (a : Account) (e : Event) (v : View) → Passing a e v → Room v e
-unfolding view
-passing-room a e v p =
-    room v e (allowed v e (p .free)) (rw (p .seen) (p .fit .ledger-fit .charged-le)) (rw (p .seen) (p .fit .ledger-fit .credited-le))
+module _ (m : List ℕ) (e : Event) (v : View) (n : ℕ) (p : Passing m e v n) where
+  pub passing-room : Room v e
+  unfolding view
+  passing-room = room v e (allowed v e (p .free)) (rw (p .looked) (p .fit .fit .ledger-fit .charged-le)) (rw (p .looked) (p .fit .fit .ledger-fit .credited-le))
 
-pub ledger-room : (a : Account) (e : Event) (v : View) → Passing a e v → LedgerRoom (a .ledger) e (charges e) (chargeOf v e) (creditOf v e)
-unfolding view
-ledger-room a e v p =
-    let r = passing-room a e v p in
-    let f = p .fit .ledger-fit in
-    let c : v .charged ≡ a .ledger .charged = rw (p .seen) in
-    let d : v .credited ≡ a .ledger .credited = rw (p .seen) in
-    let s : v .credits ≡ a .ledger .credited - a .ledger .«paid_out» = rw (p .seen) in
-    let n : v .«open_count» ≡ a .ledger .items .count = rw (p .seen) in
-    record {
-      charged-room = omega (arith, r .charged-room);
-      credited-room = omega (arith, r .credited-room);
-      paid-room = omega (arith, r .payout-room, f .paid-le);
-      count-room = λ q. omega (arith, r .count-room q);
-    }
+  -- the charge is no more than the machine's largest number
+  pub charge-exact : n ≡ chargeOf v e
+  charge-exact = omega (arith, p .charged, passing-room .charged-room)
 
--- the charge is no more than the machine's largest number
-pub charge-exact : (a : Account) (e : Event) (v : View) (n : ℕ) → Passing a e v → n ≡ min (chargeOf v e) largest → n ≡ chargeOf v e
-charge-exact a e v n p q = omega (arith, passing-room a e v p .charged-room)
+  pub money-room : LedgerRoom (stateOn m .ledger) e (charges e) (chargeOf v e) (creditOf v e)
+  unfolding view
+  money-room =
+      ledger-room (stateOn m .ledger) v e (p .fit .fit .ledger-fit) passing-room (rw (p .looked)) (rw (p .looked)) (rw (p .looked))
 
--- ---- the exits of judge: first is the number of rows 1 to 3
-abbrev pub firstOf : Account → Event → ℕ
-firstOf a e = dayRows (a .last) (e .day) (cond (not (inRange e)) 3 0)
+-- ---- the spans that come back
+module _ (m : List ℕ) (l : length m ≡ accountSize) (e : Event) where
+  -- ledger, receipts and arrangement; a span that is lent later is as it was
+  module _ (ws : List ℕ) (a : length ws ≡ ledgerSize) where
+    pub receipts-still : part sizes 5 (back sizes 6 ws m) ≡ part sizes 5 m
+    receipts-still = ap (λ cs. getD cs 5 []) (then sizes 6 ws (omega arith) a (here sizes m l) .cuts)
 
--- rows 1 to 3 refuse, or the rest does
-rows : (a b c : Bool) (r : ℕ) → cond a 1 (cond b 2 (cond c 3 r)) ≡ cond (eqb (cond a 1 (cond b 2 (cond c 3 0))) 0) r (cond a 1 (cond b 2 (cond c 3 0)))
-rows true b c r = refl
-rows false true c r = refl
-rows false false true r = refl
-rows false false false r = refl
+    module _ (ys : List ℕ) (b : length ys ≡ receiptsSize) where
+      pub arrangement-still : part sizes 4 (back sizes 5 ys (back sizes 6 ws m)) ≡ part sizes 4 m
+      arrangement-still = ap (λ cs. getD cs 4 []) (then sizes 5 ys (omega arith) b (then sizes 6 ws (omega arith) a (here sizes m l)) .cuts)
 
-refusal-split : (a : Account) (e : Event) → refusalAt a e ≡ cond (eqb (firstOf a e) 0) (refusalBy (view a e) e) (firstOf a e)
-unfolding refusalAt
-refusal-split a e = rows (ltb finalDay (e .day)) (ltb (e .day) (a .last)) (not (inRange e)) (refusalBy (view a e) e)
+      pub money-by : (zs : List ℕ) (v : View) → length zs ≡ arrangementSize
+          → ledgerOn ws ≡ ledgerAfter (stateOn m .ledger) e (charges e) (chargeOf v e) (creditOf v e)
+          → receiptsOn ys ≡ receiptsAfter (receiptsOn (part sizes 5 (back sizes 6 ws m))) e
+          → arrangementOn zs ≡ arrangementAfter (arrangementOn (part sizes 4 (back sizes 5 ys (back sizes 6 ws m)))) e (v .arrears) (v .payment)
+          → Became (back sizes 4 zs (back sizes 5 ys (back sizes 6 ws m))) (moneyAfter (stateOn m) e v)
+      money-by zs v c p q r =
+          let t = then sizes 4 zs (omega arith) c (then sizes 5 ys (omega arith) b (then sizes 6 ws (omega arith) a (here sizes m l))) in
+          let q2 = q ∙ ap (λ w. receiptsAfter (receiptsOn w) e) receipts-still in
+          let r2 = r ∙ ap (λ w. arrangementAfter (arrangementOn w) e (v .arrears) (v .payment)) arrangement-still in
+          record {
+            words-are = t .words-are;
+            state-is =
+                ap stateOf (t .cuts)
+                ∙ (λ i.
+                record {
+                  last = stateOn m .last;
+                  collection = stateOn m .collection;
+                  deposit = stateOn m .deposit;
+                  medical = stateOn m .medical;
+                  arrangement = r2 i;
+                  receipts = q2 i;
+                  ledger = p i;
+                });
+          }
 
-pub well-formed : (a : Account) (e : Event) → firstOf a e ≡ 0 → WellFormed e
-well-formed a e p =
-    let one = skipped (ltb finalDay (e .day)) 1 _ (eqb-false 1 0 refl) p in
-    let two = skipped (ltb (e .day) (a .last)) 2 _ (eqb-false 2 0 refl) (one .1) in
-    let three = skipped (not (inRange e)) 3 0 (eqb-false 3 0 refl) (two .1) in
-    record { in-time = ltb-false finalDay (e .day) (one .0); in-range = not-false (inRange e) (three .0) }
+  -- deposit and medical
+  pub file-by : (ws ys : List ℕ) → length ws ≡ depositSize → length ys ≡ medicalSize
+      → depositOn ws ≡ depositAfter (stateOn m .deposit) e
+      → medicalOn ys ≡ medicalAfter (medicalOn (part sizes 3 (back sizes 2 ws m))) e
+      → Became (back sizes 3 ys (back sizes 2 ws m)) (fileAfter (stateOn m) e)
+  file-by ws ys a b p q =
+      let s = then sizes 2 ws (omega arith) a (here sizes m l) in
+      let t = then sizes 3 ys (omega arith) b s in
+      let q2 = q ∙ ap (λ cs. medicalAfter (medicalOn (getD cs 3 [])) e) (s .cuts) in
+      record {
+        words-are = t .words-are;
+        state-is =
+            ap stateOf (t .cuts)
+            ∙ (λ i.
+            record {
+              last = stateOn m .last;
+              collection = stateOn m .collection;
+              deposit = p i;
+              medical = q2 i;
+              arrangement = stateOn m .arrangement;
+              receipts = stateOn m .receipts;
+              ledger = stateOn m .ledger;
+            });
+      }
 
-pub judged-first : (a : Account) (e : Event) (n : ℕ) → n ≡ firstOf a e → (n ≡ 0 → ⊥) → refusedBy a n ≡ judged a e
-unfolding judged
-judged-first a e n p q =
-    let z : eqb (firstOf a e) 0 ≡ false = ne-eqb (firstOf a e) 0 (λ y. q (p ∙ y)) in
-    rw (refusal-split a e, z, z, p)
+  -- collection and the day
+  pub service-by : (ws ys : List ℕ) (due : ℕ) → length ws ≡ collectionSize
+      → due ≡ cond (watched (stateOn m .collection) e) (arrearsBy (stateOn m .ledger) (e .day)) 0
+      → collectionOn ws ≡ collectionAfter (stateOn m .collection) e due
+      → ys ≡ e .day ∷ []
+      → Became (back sizes 0 ys (back sizes 1 ws m)) (serviceAfter (stateOn m) e)
+  service-by ws ys due a d p q =
+      let t = then sizes 0 ys (omega arith) (ap length q) (then sizes 1 ws (omega arith) a (here sizes m l)) in
+      let p2 = p ∙ (ap (collectionAfter (stateOn m .collection) e) d ∙ collection-watched (stateOn m .collection) e (arrearsBy (stateOn m .ledger) (e .day))) in
+      record {
+        words-are = t .words-are;
+        state-is =
+            ap stateOf (t .cuts)
+            ∙ (λ i.
+            record {
+              last = getD (q i) 0 0;
+              collection = p2 i;
+              deposit = stateOn m .deposit;
+              medical = stateOn m .medical;
+              arrangement = stateOn m .arrangement;
+              receipts = stateOn m .receipts;
+              ledger = stateOn m .ledger;
+            });
+      }
 
-pub judged-accepted : (a : Account) (e : Event) (v : View) → firstOf a e ≡ 0 → v ≡ view a e → refusalBy v e ≡ 0 → acceptedBy a e v ≡ judged a e
-unfolding judged
-judged-accepted a e v f s z =
-    let r : refusalBy (view a e) e ≡ 0 = rw s at z in
-    rw (refusal-split a e, f, r, s)
+-- ---- the three steps together
+-- the money does not touch the deposit
+pub deposit-still : (m a : List ℕ) (e : Event) (v : View) → Became a (moneyAfter (stateOn m) e v) → DepositFit (stateOn m .deposit) → DepositFit (stateOn a .deposit)
+deposit-still m a e v b f = subst (λ s. DepositFit (s .deposit)) (sym (b .state-is)) f
 
-pub judged-refused : (a : Account) (e : Event) (v : View) (n : ℕ) → firstOf a e ≡ 0 → v ≡ view a e → n ≡ refusalBy v e → (n ≡ 0 → ⊥) → refusedBy a n ≡ judged a e
-unfolding judged
-judged-refused a e v n f s p q =
-    let r : refusalBy (view a e) e ≡ n = sym (p ∙ ap (λ u. refusalBy u e) s) in
-    rw (refusal-split a e, f, r, ne-eqb n 0 q)
+pub steps-are : (m a b c : List ℕ) (e : Event) (v : View) → Became a (moneyAfter (stateOn m) e v) → Became b (fileAfter (stateOn a) e) → Became c (serviceAfter (stateOn b) e) → Became c (applied (stateOn m) e v)
+unfolding applied
+steps-are m a b c e v p q r =
+    record { words-are = r .words-are; state-is = r .state-is ∙ ap (λ s. serviceAfter s e) (q .state-is ∙ ap (λ s. fileAfter s e) (p .state-is)) }
 
--- ---- the exits of post
-pub posted-yes : (a : Account) (e : Event) → accountOk a ≡ true → judged a e ≡ posted a e
-unfolding posted
-posted-yes a e q = rw q
+-- the receipt of a payment is how many there are then
+pub receipt-by : (m c : List ℕ) (e : Event) (v : View) (n : ℕ) → Became c (applied (stateOn m) e v) → n ≡ stateOn c .receipts .count → cond (is payment e) n 0 ≡ receiptAt (stateOn m) e
+unfolding applied
+receipt-by m c e v n b q =
+    let z : n ≡ cond (is payment e) (stateOn m .receipts .count + 1) (stateOn m .receipts .count) = q ∙ ap (λ s. s .receipts .count) (b .state-is) in
+    rw z (on (is payment e) (λ y. rw y refl) (λ y. rw y refl))
 
-pub posted-no : (a : Account) (e : Event) → accountOk a ≡ false → refusedBy a 0 ≡ posted a e
-unfolding posted
-posted-no a e q = rw q
+-- ---- what the event's kind looks at is enough to apply it
+module _ (v : View) (e : Event) where
+  arrangement-seen : (a : Arrangement) → arrangementAfter a e (seenOf v e .arrears) (seenOf v e .payment) ≡ arrangementAfter a e (v .arrears) (v .payment)
+  arrangement-seen a =
+      on (is arrangement e)
+      (λ q. ap (λ n. arrangementAfter a e n (seenOf v e .payment)) (debt-seen v e q) ∙ rw q refl)
+      (λ q. on (is returnedPayment e)
+      (λ p. ap (λ n. arrangementAfter a e (seenOf v e .arrears) n) (payment-seen v e p) ∙ rw q refl)
+      (λ p. rw (q, p) refl))
+
+  pub applied-seen : (s : State) → applied s e (seenOf v e) ≡ applied s e v
+  unfolding applied
+  applied-seen s =
+      λ i.
+      serviceAfter (fileAfter (record {
+        last = s .last;
+        collection = s .collection;
+        deposit = s .deposit;
+        medical = s .medical;
+        arrangement = arrangement-seen (s .arrangement) i;
+        receipts = receiptsAfter (s .receipts) e;
+        ledger = ledgerAfter (s .ledger) e (charges e) (charge-seen v e i) (credit-seen v e i);
+      }) e) e

@@ -1,5 +1,4 @@
-pub mod Account
+pub mod State
 pub mod Post
-pub mod Questions
-pub mod Claim
-pub mod Replay
+pub mod Looks
+pub mod Many

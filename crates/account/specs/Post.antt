@@ -1,10 +1,10 @@
--- Posting one event to an account, and a list of them.
+-- Posting one event to an account: the answer, and every word of the account afterwards.
 use Prim.Native.Nat.{ℕ, _+_}
+use mathlib.Core.Path.{_≡_}
 use mathlib.Core.Bool.{cond, not}
-use mathlib.Core.List.{List, [], _∷_}
+use mathlib.Core.List.{List}
 use lib.Dec.{eqb}
 use Rattle.rules.specs.declared.Event.{Event}
-use Rattle.rules.specs.declared.View.{View}
 use Rattle.rules.specs.declared.Answer.{Answer}
 use Rattle.rules.specs.declared.Answer.the-variants.{Accepted, Refused}
 use Rattle.rules.specs.Kinds.{payment}
@@ -14,36 +14,41 @@ use Rattle.rules.specs.Table.{refusalBy}
 use Rattle.rules.specs.Accepted.{dayRows}
 use Rattle.account.specs.declared.Account.{Account}
 use Rattle.account.specs.declared.Posted.{Posted}
-use Rattle.account.specs.Account.{accountOk, view, applied}
+use Rattle.account.specs.State.{State, stateOn, wordsOf, passes, view, applied}
 
+-- ---- an account of parts
 -- the number that refuses e, 0 for none: 1 and 2 for the day, 3 for the range, then the table
-unfoldable pub refusalAt : Account → Event → ℕ
-refusalAt a e = dayRows (a .last) (e .day) (cond (not (inRange e)) 3 (refusalBy (view a e) e))
+unfoldable pub refusalAt : State → Event → ℕ
+refusalAt s e = dayRows (s .last) (e .day) (cond (not (inRange e)) 3 (refusalBy (view s e) e))
 
 -- the receipt of a payment, or 0
-abbrev pub receiptAt : Account → Event → ℕ
-receiptAt a e = cond (is payment e) (a .receipts .count + 1) 0
+abbrev pub receiptAt : State → Event → ℕ
+receiptAt s e = cond (is payment e) (s .receipts .count + 1) 0
+
+unfoldable pub answerAt : State → Event → Answer
+answerAt s e = cond (eqb (refusalAt s e) 0) (Accepted (receiptAt s e)) (Refused (refusalAt s e))
 
 -- refused: the account stays as it was
-abbrev pub refusedBy : Account → ℕ → Posted
-refusedBy a n = record { answer = Refused n; account = a }
+unfoldable pub stateAfter : State → Event → State
+stateAfter s e = cond (eqb (refusalAt s e) 0) (applied s e (view s e)) s
 
-abbrev pub acceptedBy : Account → Event → View → Posted
-acceptedBy a e v = record { answer = Accepted (receiptAt a e); account = applied a e v }
+-- ---- memory: what is no account is refused with 0, a number that the table does not have, and stays as it was
+unfoldable pub answerTo : List ℕ → Event → Answer
+answerTo m e = cond (passes m) (answerAt (stateOn m) e) (Refused 0)
 
--- e judged by the table
-unfoldable pub judged : Account → Event → Posted
-judged a e = cond (eqb (refusalAt a e) 0) (acceptedBy a e (view a e)) (refusedBy a (refusalAt a e))
+unfoldable pub wordsAfter : List ℕ → Event → List ℕ
+wordsAfter m e = cond (passes m) (wordsOf (stateAfter (stateOn m) e)) m
 
--- an account that fails the test comes back unchanged, refused with 0, a number that the table does not have
-unfoldable pub posted : Account → Event → Posted
-posted a e = cond (accountOk a) (judged a e) (refusedBy a 0)
+-- one posting: the memory was m, r is the answer to e, and k is the memory that is left
+pub record Leaves (m : List ℕ) (e : Event) (r : Answer) (k : List ℕ) : Type 0 where
+  pub answer-is : r ≡ answerTo m e
+  pub words-are : k ≡ wordsAfter m e
 
--- a list, in the order posted: each event to the account that the posting before it returned
-abbrev pub run : Account → List Event → Account
-run a [] = a
-run a (e ∷ es) = run (posted a e .account) es
+-- the same of memory that is known to be an account
+pub record Judges (m : List ℕ) (e : Event) (r : Answer) (k : List ℕ) : Type 0 where
+  pub answer-is : r ≡ answerAt (stateOn m) e
+  pub state-is : stateOn k ≡ stateAfter (stateOn m) e
 
-abbrev pub answers : Account → List Event → List Answer
-answers a [] = []
-answers a (e ∷ es) = posted a e .answer ∷ answers (posted a e .account) es
+-- ---- by value
+abbrev pub posted : Account → Event → Posted
+posted a e = record { answer = answerTo (a .memory) e; account = record { memory = wordsAfter (a .memory) e } }

@@ -1,0 +1,36 @@
+use Rattle.account.proofs.OwnWays.{now-free, way-judged, way-refused}
+use borrow.Author.Needs.{needs}
+use Rattle.account.proofs.ways.item.Statement.{statement}
+use Rattle.account.proofs.ways.item.Tie as tie
+
+charge-item-requires : tie.Need-charge-item-requires
+charge-item-requires c κs =
+    let n = c .before .before in
+    let f = n .before .before .before .before in
+    let s = f .before .before .before .before .before in
+    let a = s .args in
+    (now-free (a .m .now) (a .e) (s .pre .0) (f .before .word .result) (f .first-row .result) (n .item-row .result) (f .before .word .ensures) (f .first-row .ensures) (n .item-row .ensures) (c .before .if1 .taken), s .pre .1, n .before .before .amount-of .ensures)
+
+returns : tie.Need-returns
+returns c =
+    let p = c .before .before in
+    let n = p .before .before .before in
+    let f = n .before .before .before .before in
+    let s = f .before .before .before .before .before in
+    let a = s .args in
+    way-judged (a .m .now) (a .e) (s .pre .0) (f .before .word .result) (f .first-row .result) (n .item-row .result) (f .before .word .ensures) (f .first-row .ensures) (n .item-row .ensures) (p .before .before .if1 .taken) 0 (p .charge-item .last .0) (p .charge-item .ensures)
+
+returns-2 : tie.Need-returns-2
+returns-2 c =
+    let n = c .before .before in
+    let f = n .before .before .before .before in
+    let s = f .before .before .before .before .before in
+    let a = s .args in
+    way-refused (a .m .now) (a .e) (s .pre .0) (f .before .word .result) (f .first-row .result) (n .item-row .result) (f .before .word .ensures) (f .first-row .ensures) (n .item-row .ensures) (c .select8 .result) (c .select8 .ensures) (c .before .if1 .left)
+
+pub item-spec : {M : Type 1} → statement M
+item-spec =
+    tie.close
+    (tie.spec (λ c. search needs) (λ c. search needs) (λ c. search needs) (λ c κs. search needs) (λ c κs. search needs)
+    (λ c κs. search needs) (λ c κs. search needs) charge-item-requires (λ c. search needs) returns
+    (λ c κs. search needs) (λ c. search needs) returns-2)
