@@ -1,32 +1,27 @@
 -- Demand 3 holds of every list posted on a lent account.
-use mathlib.Core.Path.{_≡_, refl, ap, _∙_}
+use mathlib.Core.Path.{refl, ap}
 use mathlib.Core.List.{List, [], _∷_}
 use Rattle.rules.specs.declared.Event.{Event}
 use Rattle.rules.specs.declared.Answer.{Answer}
 use Rattle.account.specs.declared.Account.{Account}
-use Rattle.account.specs.Account.{fresh}
-use Rattle.account.specs.Post.{posted, run, answers}
-use Rattle.account.proofs.Demand.{demand-3}
-use Rattle.lent.specs.Left.{Leaves, LeftBy, LentClaim}
+use Rattle.account.specs.Post.{posted, Leaves}
+use Rattle.claim.specs.Run.{run, answers, LeftBy}
+use Rattle.claim.proofs.Demand.{demand-3-left}
+use Rattle.lent.specs.Left.{LeavesLent, fresh, LentClaim}
 
--- what is left and answered is what the same list by value gives
-pub as-by-value : (a : Account) (es : List Event) (said : List Answer) (z : Account) → LeftBy Leaves a es said z → (z ≡ run a es) × (said ≡ answers a es)
-as-by-value a [] [] z h = (h, refl)
-as-by-value a [] (s ∷ said) z h = absurd h
-as-by-value a (e ∷ es) [] z h = absurd h
-as-by-value a (e ∷ es) (s ∷ said) z h =
-    let b = h .0 in
-    let t = as-by-value b es said z (h .1 .1) in
-    let p : b ≡ posted a e .account = h .1 .0 .1 in
-    (t .0 ∙ ap (λ c. run c es) p, rw (h .1 .0 .0, t .1, p))
-
--- every list can be posted so
-pub any-list : (a : Account) (es : List Event) → LeftBy Leaves a es (answers a es) (run a es)
-any-list a [] = refl
-any-list a (e ∷ es) = (posted a e .account, ((refl, refl), any-list (posted a e .account) es))
+-- an account that is lent is its memory
+in-memory : (a : Account) (es : List Event) (said : List Answer) (z : Account) → LeftBy LeavesLent a es said z → LeftBy Leaves (a .memory) es said (z .memory)
+in-memory a [] [] z h = ap (λ b. b .memory) h
+in-memory a [] (s ∷ said) z h = absurd h
+in-memory a (e ∷ es) [] z h = absurd h
+in-memory a (e ∷ es) (s ∷ said) z h =
+    (h .0 .memory, (record { answer-is = h .1 .0 .0; words-are = ap (λ b. b .memory) (h .1 .0 .1) }, in-memory (h .0) es said z (h .1 .1)))
 
 -- DEMAND 3
 pub demand-3-lent : (es : List Event) (said : List Answer) (z : Account) → LentClaim es said z
-demand-3-lent es said z h =
-    let t = as-by-value fresh es said z h in
-    rw (t .0, t .1) (demand-3 es)
+demand-3-lent es said z h = demand-3-left es said (z .memory) (in-memory fresh es said z h)
+
+-- every list can be posted so
+pub any-list-lent : (a : Account) (es : List Event) → LeftBy LeavesLent a es (answers (a .memory) es) (record { memory = run (a .memory) es })
+any-list-lent a [] = refl
+any-list-lent a (e ∷ es) = (posted a e .account, ((refl, refl), any-list-lent (posted a e .account) es))

@@ -1,0 +1,4 @@
+pub mod Run
+pub mod Claim
+pub mod Replay
+pub mod Many
