@@ -1,6 +1,7 @@
 // The book file: what its bytes mean, what is refused, and the two round trips, in specs/ and proofs/. Here are its limits,
 // the words of the answers and one record; the code for whole books is in `book`, `bookread` and `bookwrite`.
-use little::get;
+use little::get4;
+use little::get8;
 use rules::Event;
 use rules::kinds::BILL;
 use rules::kinds::CLOSING;
@@ -76,7 +77,7 @@ pub fn event_at(b: &[u8], p: usize) -> Event
     Event {
         kind: b[p],
         option: b[p + 1],
-        day: get(b, p + 4, 4) as u32,
-        amount: get(b, p + 8, 8),
+        day: get4(b, p + 4) as u32,
+        amount: get8(b, p + 8),
     }
 }

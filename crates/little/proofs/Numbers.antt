@@ -1,7 +1,7 @@
 -- One law for numbers in bytes, over the width, each way; and what the loops that read and store them use.
 use mathlib.Core.Path.{_≡_, refl, sym, ap, _∙_}
 use mathlib.Core.List.{List, [], _∷_, _++_}
-use Prim.Native.Nat.{ℕ, zero, suc, _+_, _*_, _-_, _/_, _%_, _≤_, _<_}
+use Prim.Native.Nat.{ℕ, zero, suc, _+_, _*_, _/_, _%_, _≤_, _<_}
 use native.Mathlib.Nat.{not-suc-le-zero, le-of-suc-le-suc}
 use native.Mathlib.Numerals.{add-one}
 use native.Mathlib.Omega.{arith}
@@ -70,6 +70,22 @@ num-zero p b = refl
 pub num-step : (w p : ℕ) (b : List ℕ) → p < length b → num (suc w) p b ≡ getD b p 0 + 256 * num w (p + 1) b
 unfolding num un
 num-step w p b h = rw (drop-cons b p 0, add-one)
+
+-- four bytes more at the low end: what the readers without a loop add
+pub num-four : (w p : ℕ) (b : List ℕ) → p + 4 ≤ length b →
+    num (suc (suc (suc (suc w)))) p b
+    ≡ getD b p 0 + 256 * (getD b (p + 1) 0 + 256 * (getD b (p + 2) 0 + 256 * (getD b (p + 3) 0 + 256 * num w (p + 4) b)))
+num-four w p b h =
+    let two : p + 1 + 1 ≡ p + 2 = omega arith in
+    let three : p + 2 + 1 ≡ p + 3 = omega arith in
+    let four : p + 3 + 1 ≡ p + 4 = omega arith in
+    omega (
+      arith,
+      num-step (suc (suc (suc w))) p b (omega arith),
+      num-step (suc (suc w)) (p + 1) b (omega arith) ∙ ap (λ i. getD b (p + 1) 0 + 256 * num (suc (suc w)) i b) two,
+      num-step (suc w) (p + 2) b (omega arith) ∙ ap (λ i. getD b (p + 2) 0 + 256 * num (suc w) i b) three,
+      num-step w (p + 3) b (omega arith) ∙ ap (λ i. getD b (p + 3) 0 + 256 * num w i b) four,
+    )
 
 pub top-mono : (i j : ℕ) → i ≤ j → top i ≤ top j
 top-mono zero zero h = omega arith

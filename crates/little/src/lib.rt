@@ -25,6 +25,21 @@ pub fn get(b: &[u8], p: usize, w: usize) -> u64
     acc
 }
 
+// The same of 4 and of 8 bytes, without a loop: the records of a book are read by these, and each is one load.
+pub fn get4(b: &[u8], p: usize) -> u64
+    requires { ⌜ p + 4 ≤ length (now b) ⌝ }
+    ensures { λ r. ⌜ (r ≡ num 4 p (now (b .entry))) × (r < top 4) ⌝ }
+{
+    wide(b[p]) + 256 * (wide(b[p + 1]) + 256 * (wide(b[p + 2]) + 256 * wide(b[p + 3])))
+}
+
+pub fn get8(b: &[u8], p: usize) -> u64
+    requires { ⌜ p + 8 ≤ length (now b) ⌝ }
+    ensures { λ r. ⌜ (r ≡ num 8 p (now (b .entry))) × (r < top 8) ⌝ }
+{
+    get4(b, p) + 4_294_967_296 * get4(b, p + 4)
+}
+
 // Stores the w bytes of v from p on.
 pub fn put(out: &mut [u8], p: usize, w: usize, v: u64)
     requires { ⌜ p + w ≤ length (now out) ⌝ }

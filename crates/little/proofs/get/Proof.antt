@@ -28,26 +28,11 @@ loop-holds c =
     let z : a .w - a .w ≡ 0 = omega arith in
     (search needs, rw z (sym (num-zero (a .p + a .w) (a .b .now))))
 
-sub-left : tie.Need-sub-left Inv-loop μ-loop
-sub-left c = search needs
-
-add-wide : tie.Need-add-wide Inv-loop μ-loop
-add-wide c = search needs
-
-shared-slice-read-wide : tie.Need-shared-slice-read-wide Inv-loop μ-loop
-shared-slice-read-wide c = search needs
-
-wide-requires : tie.Need-wide-requires Inv-loop μ-loop
-wide-requires c κs = search needs
-
 mul-acc : tie.Need-mul-acc Inv-loop μ-loop
 mul-acc c = record { fits = omega (arith, bound (c .before .before)) }
 
 add-acc : tie.Need-add-acc Inv-loop μ-loop
 add-acc c = record { fits = omega (arith, bound (c .before .before)) }
-
-loop-less : tie.Need-loop-less Inv-loop μ-loop
-loop-less c = search needs
 
 loop-again : tie.Need-loop-again Inv-loop μ-loop
 loop-again c =
@@ -72,16 +57,5 @@ returns c =
 pub get-spec : {M : Type 1} → statement M
 get-spec =
     tie.close
-    (tie.spec
-    Inv-loop
-    μ-loop
-    loop-holds
-    sub-left
-    add-wide
-    shared-slice-read-wide
-    wide-requires
-    mul-acc
-    add-acc
-    loop-less
-    loop-again
-    returns)
+    (tie.spec Inv-loop μ-loop loop-holds (λ c. search needs) (λ c. search needs) (λ c. search needs)
+    (λ c κs. search needs) mul-acc add-acc (λ c. search needs) loop-again returns)

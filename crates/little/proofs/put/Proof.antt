@@ -19,30 +19,12 @@ loop-holds : tie.Need-loop-holds Inv-loop μ-loop
 unfolding le
 loop-holds c = search needs
 
-cast-out : tie.Need-cast-out Inv-loop μ-loop
-cast-out c = search needs
-
-slice-write-out : tie.Need-slice-write-out Inv-loop μ-loop
-slice-write-out c = search needs
-
-add-at : tie.Need-add-at Inv-loop μ-loop
-add-at c = search needs
-
-sub-left : tie.Need-sub-left Inv-loop μ-loop
-sub-left c = search needs
-
-loop-less : tie.Need-loop-less Inv-loop μ-loop
-loop-less c = search needs
-
 loop-again : tie.Need-loop-again Inv-loop μ-loop
 unfolding le
 loop-again c =
     let l = c .before .loop in
     let e : l .left ≡ suc (l .left - 1) = omega arith in
     (rw add-one (rw e at (l .inv .0)), omega arith, search needs)
-
-same-length : tie.Need-same-length Inv-loop μ-loop
-same-length c = search needs
 
 returns : tie.Need-returns Inv-loop μ-loop
 unfolding le
@@ -54,15 +36,5 @@ returns c =
 pub put-spec : {M : Type 1} → statement M
 put-spec =
     tie.close
-    (tie.spec
-    Inv-loop
-    μ-loop
-    loop-holds
-    cast-out
-    slice-write-out
-    add-at
-    sub-left
-    loop-less
-    loop-again
-    same-length
-    returns)
+    (tie.spec Inv-loop μ-loop loop-holds (λ c. search needs) (λ c. search needs) (λ c. search needs) (λ c. search needs)
+    (λ c. search needs) loop-again (λ c. search needs) returns)
