@@ -13,6 +13,7 @@ use lib.Seq.{sets, length-take-le}
 use Rattle.basics.proofs.Cases.{on, and-left, and-right}
 use Rattle.rules.specs.declared.Event.{Event}
 use Rattle.rules.specs.History.{History}
+use Rattle.rules.specs.Money.{owed}
 use Rattle.rules.specs.Answer.{numberOf}
 use Rattle.rules.specs.Accepted.{Lawful, offered, answersAfter, answersBy}
 use Rattle.rules.proofs.Lawful.{offered-lawful}
@@ -23,34 +24,37 @@ use Rattle.layout.specs.Answers.{outcomeOf}
 use Rattle.layout.specs.Lent.{after, orElse}
 use Rattle.layout.specs.Book.{records, bookRefusal, flat, decode}
 use Rattle.layout.specs.Finding.{recordOf, accountOf, IsAccount}
-use Rattle.layout.proofs.Found.{walk-step, flat-length}
-use Rattle.account.specs.declared.Account.{Account}
+use Rattle.layout.proofs.Found.{flat-length}
 use Rattle.account.specs.declared.Posted.{Posted}
-use Rattle.account.specs.Account.{fresh, accountOf as partsOf}
-use Rattle.account.specs.Post.{posted, answers}
-use Rattle.account.specs.Questions.{owedBy}
-use Rattle.account.proofs.Laws.{laws}
-use Rattle.account.proofs.Compose.{posted-same, fresh-is, owed-same}
-use Rattle.account.proofs.Demand.{demand-3}
+use Rattle.account.specs.State.{wordsOf, accountOf as partsOf}
+use Rattle.account.specs.Post.{answerTo, wordsAfter}
+use Rattle.questions.specs.Questions.{owedIn}
+use Rattle.claim.specs.Run.{answers}
+use Rattle.claim.specs.Claim.{freshWords}
+use Rattle.claim.proofs.Laws.{laws}
+use Rattle.claim.proofs.Compose.{words-after, fresh-is, asked-is}
+use Rattle.claim.proofs.Demand.{demand-3}
 use Rattle.bookpost.specs.History.{numbersOf, owedFrom, historyRefusal, Told}
-use Rattle.bookpost.proofs.Posting.{rest}
+use Rattle.bookpost.proofs.Posting.{rest, next-left}
 
 -- what the account owes after each event
-abbrev pub owedRun : Account → List Event → List ℤ
-owedRun a [] = []
-owedRun a (e ∷ es) = owedBy (posted a e .account) ∷ owedRun (posted a e .account) es
+abbrev owedRun : List ℕ → List Event → List ℤ
+owedRun m [] = []
+owedRun m (e ∷ es) = owedIn (wordsAfter m e) ∷ owedRun (wordsAfter m e) es
 
-owed-run : (h : History) (es : List Event) → Lawful h → owedRun (partsOf h) es ≡ owedFrom h es
+owed-run : (h : History) (es : List Event) → Lawful h → owedRun (wordsOf (partsOf h)) es ≡ owedFrom h es
 owed-run h [] w = refl
 owed-run h (e ∷ es) w =
     let w2 = offered-lawful h e w in
-    rw (posted-same h e w, owed-same (offered h e) (laws (offered h e) w2), owed-run (offered h e) es w2)
+    let k = laws (offered h e) w2 in
+    ap (λ m. owedIn m ∷ owedRun m es) (words-after h e w)
+    ∙ (ap (λ x. x ∷ owedRun (wordsOf (partsOf (offered h e))) es) (asked-is (offered h e) _ _ k ∙ k .on-ledger .owed-is) ∙ ap (λ l. owed (offered h e) ∷ l) (owed-run (offered h e) es w2))
 
 -- by demand 3, and by its laws for what is owed on the way
-pub numbers-are : (es : List Event) → map numberOf (answers fresh es) ≡ numbersOf es
+pub numbers-are : (es : List Event) → map numberOf (answers freshWords es) ≡ numbersOf es
 numbers-are es = ap (map numberOf) (demand-3 es .answered)
 
-pub owed-are : (es : List Event) → owedRun fresh es ≡ owedFrom [] es
+pub owed-are : (es : List Event) → owedRun freshWords es ≡ owedFrom [] es
 owed-are es = rw fresh-is (owed-run [] es tt)
 
 pub span-length : (b : List ℕ) (i : ℕ) (s : Span) → bookRefusal b ≡ 0 → IsAccount b i s → s .count ≡ length (accountOf b i)
@@ -71,9 +75,9 @@ length-owed h [] = refl
 length-owed h (e ∷ es) = ap suc (length-owed (offered h e) es)
 
 -- the records before k are noted
-pub record Noting (b : List ℕ) (i : ℕ) (ns₀ : List ℕ) (os₀ : List ℤ) (ns : List ℕ) (os : List ℤ) (k left at : ℕ) (a : Account) : Type 0 where
-  pub numbers : sets ns at (map numberOf (answers a (rest b left k))) ≡ sets ns₀ 0 (map numberOf (answers fresh (accountOf b i)))
-  pub owing : sets os at (owedRun a (rest b left k)) ≡ sets os₀ 0 (owedRun fresh (accountOf b i))
+pub record Noting (b : List ℕ) (i : ℕ) (ns₀ : List ℕ) (os₀ : List ℤ) (ns : List ℕ) (os : List ℤ) (k left at : ℕ) (m : List ℕ) : Type 0 where
+  pub numbers : sets ns at (map numberOf (answers m (rest b left k))) ≡ sets ns₀ 0 (map numberOf (answers freshWords (accountOf b i)))
+  pub owing : sets os at (owedRun m (rest b left k)) ≡ sets os₀ 0 (owedRun freshWords (accountOf b i))
   pub within : k + left ≤ records b
   pub small : records b ≤ 268435455
   pub few : at ≤ k
@@ -83,13 +87,13 @@ pub record Noting (b : List ℕ) (i : ℕ) (ns₀ : List ℕ) (os₀ : List ℤ)
   pub owed-same-length : length os ≡ length os₀
 
 module _ (b : List ℕ) (i : ℕ) (ns₀ : List ℕ) (os₀ : List ℤ) where
-  pub note-begin : (s : Span) (a : Account) → bookRefusal b ≡ 0 → IsAccount b i s → a ≡ fresh
-      → length (accountOf b i) ≤ length ns₀ → length (accountOf b i) ≤ length os₀ → Noting b i ns₀ os₀ ns₀ os₀ (s .first) (s .count) 0 a
-  note-begin s a z h e n o =
+  pub note-begin : (s : Span) (m : List ℕ) → bookRefusal b ≡ 0 → IsAccount b i s → m ≡ freshWords
+      → length (accountOf b i) ≤ length ns₀ → length (accountOf b i) ≤ length os₀ → Noting b i ns₀ os₀ ns₀ os₀ (s .first) (s .count) 0 m
+  note-begin s m z h e n o =
       let c = span-length b i s z h in
       record {
-        numbers = ap (λ x. sets ns₀ 0 (map numberOf (answers x (rest b (s .count) (s .first))))) e ∙ ap (λ l. sets ns₀ 0 (map numberOf (answers fresh l))) (h .events);
-        owing = ap (λ x. sets os₀ 0 (owedRun x (rest b (s .count) (s .first)))) e ∙ ap (λ l. sets os₀ 0 (owedRun fresh l)) (h .events);
+        numbers = ap (λ x. sets ns₀ 0 (map numberOf (answers x (rest b (s .count) (s .first))))) e ∙ ap (λ l. sets ns₀ 0 (map numberOf (answers freshWords l))) (h .events);
+        owing = ap (λ x. sets os₀ 0 (owedRun x (rest b (s .count) (s .first)))) e ∙ ap (λ l. sets os₀ 0 (owedRun freshWords l)) (h .events);
         within = h .within;
         small = h .small;
         few = omega arith;
@@ -99,18 +103,18 @@ module _ (b : List ℕ) (i : ℕ) (ns₀ : List ℕ) (os₀ : List ℤ) where
         owed-same-length = refl;
       }
 
-  module _ (ns : List ℕ) (os : List ℤ) (k left at : ℕ) (a : Account) (t : Noting b i ns₀ os₀ ns os k left at a) where
-    pub note-turn : (e : Event) (p : Posted) (x : ℕ) (y : ℤ) → bookRefusal b ≡ 0 → 0 < left → e ≡ recordOf b k → p ≡ posted a e
-        → x ≡ numberOf (p .answer) → y ≡ owedBy (p .account)
-        → Noting b i ns₀ os₀ (set ns at x) (set os at y) (k + 1) (left - 1) (at + 1) (p .account)
+  module _ (ns : List ℕ) (os : List ℤ) (k left at : ℕ) (m : List ℕ) (t : Noting b i ns₀ os₀ ns os k left at m) where
+    pub note-turn : (e : Event) (p : Posted) (x : ℕ) (y : ℤ) → bookRefusal b ≡ 0 → 0 < left → e ≡ recordOf b k
+        → p ≡ record { answer = answerTo m e; account = record { memory = wordsAfter m e } }
+        → x ≡ numberOf (p .answer) → y ≡ owedIn (p .account .memory)
+        → Noting b i ns₀ os₀ (set ns at x) (set os at y) (k + 1) (left - 1) (at + 1) (p .account .memory)
     note-turn e p x y z h g q u v =
-        let m : left ≡ suc (left - 1) = omega arith in
         let r = rest b (left - 1) (k + 1) in
-        let w : rest b left k ≡ recordOf b k ∷ r = ap (λ n. rest b n k) m ∙ walk-step b (left - 1) k z (omega (arith, t .within)) in
-        let o : p ≡ posted a (recordOf b k) = q ∙ ap (posted a) g in
-        let n : map numberOf (answers a (rest b left k)) ≡ x ∷ map numberOf (answers (p .account) r) =
-        ap (λ l. map numberOf (answers a l)) w ∙ rw (u, o) in
-        let d : owedRun a (rest b left k) ≡ y ∷ owedRun (p .account) r = ap (owedRun a) w ∙ rw (v, o) in
+        let w : rest b left k ≡ e ∷ r = next-left b left k z h (t .within) ∙ ap (λ d. d ∷ r) (sym g) in
+        let o : p .account .memory ≡ wordsAfter m e = ap (λ d. d .account .memory) q in
+        let n : map numberOf (answers m (rest b left k)) ≡ x ∷ map numberOf (answers (p .account .memory) r) =
+        ap (λ l. map numberOf (answers m l)) w ∙ rw (o, u, q) in
+        let d : owedRun m (rest b left k) ≡ y ∷ owedRun (p .account .memory) r = ap (owedRun m) w ∙ rw (v, o) in
         record {
           numbers = rw add-one (sym (ap (sets ns at) n) ∙ t .numbers);
           owing = rw add-one (sym (ap (sets os at) d) ∙ t .owing);
@@ -126,8 +130,8 @@ module _ (b : List ℕ) (i : ℕ) (ns₀ : List ℕ) (os₀ : List ℤ) where
     pub note-end : left ≡ 0 → (ns ≡ sets ns₀ 0 (numbersOf (accountOf b i))) × (os ≡ sets os₀ 0 (owedFrom [] (accountOf b i)))
     note-end z =
         let w : rest b left k ≡ [] = ap (λ n. rest b n k) z in (
-          sym (ap (λ l. sets ns at (map numberOf (answers a l))) w) ∙ (t .numbers ∙ ap (sets ns₀ 0) (numbers-are (accountOf b i))),
-          sym (ap (λ l. sets os at (owedRun a l)) w) ∙ (t .owing ∙ ap (sets os₀ 0) (owed-are (accountOf b i))),
+          sym (ap (λ l. sets ns at (map numberOf (answers m l))) w) ∙ (t .numbers ∙ ap (sets ns₀ 0) (numbers-are (accountOf b i))),
+          sym (ap (λ l. sets os at (owedRun m l)) w) ∙ (t .owing ∙ ap (sets os₀ 0) (owed-are (accountOf b i))),
         )
 
 -- ---- the whole, where no number refuses

@@ -1,65 +1,40 @@
 // An account of a book, posted in place: its records are found one after another, and nothing is copied out of the book.
 use account::Account;
+use account::judge;
+use claim::refusals;
 use layout::Outcome;
 use layout::event_at;
 use little::get;
-use running::Running;
 ghost use mathlib.Core.Path.{_≡_};
 ghost use mathlib.Core.List.{[]};
 ghost use Prim.Native.Nat.{_≤_};
-ghost use lib.ListN.{length, replicate};
+ghost use lib.ListN.{length};
 ghost use lib.Seq.{sets};
 ghost use Rattle.layout.specs.Book.{bookRefusal};
 ghost use Rattle.layout.specs.Finding.{accountOf};
-ghost use Rattle.bookpost.specs.Ran.{RanOver};
+ghost use Rattle.claim.specs.Claim.{freshWords};
+ghost use Rattle.claim.specs.Replay.{Ran};
 ghost use Rattle.bookpost.specs.History.{numbersOf, owedFrom, historyRefusal, Told};
 
-// An account after its records, and how many of them were refused.
-pub struct Ran {
-    pub account: Running,
-    pub refused: u64,
-}
-
-// Account i of an accepted book, judged record by record in lent memory that is all 0.
-fn run_account(
-    b: &[u8],
-    i: usize,
-    days: &mut [u32],
-    amounts: &mut [u64],
-    uptos: &mut [u64],
-    recent: &mut [u64],
-) -> Ran
-    requires { ⌜ (bookRefusal (now b) ≡ 0) × (length (now days) ≡ 64) × (length (now amounts) ≡ 64) × (length (now uptos) ≡ 64) × (now recent ≡ replicate 32 0) ⌝ }
-    ensures { λ r. ⌜ RanOver r (accountOf (now (b .entry)) i) ⌝ }
+// Account i of an accepted book, judged record by record in lent memory that is a fresh account; says how many records were
+// refused.
+pub fn run_account(b: &[u8], i: usize, m: &mut [u64]) -> u64
+    requires { ⌜ (bookRefusal (now b) ≡ 0) × (now m ≡ freshWords) ⌝ }
+    ensures { λ r. ⌜ Ran (now (m .exit)) r (accountOf (now (b .entry)) i) ⌝ }
 {
     let s = book::account(b, i);
     let start = 8 + 8 * (get(b, 0, 4) as usize);
     let mut k = s.first;
     let mut left = s.count;
-    let mut account = Running::fresh();
     let mut refused: u64 = 0;
     while 0 < left {
         let e = event_at(b, start + 16 * k);
-        let p = account.judge(days, amounts, uptos, recent, e);
-        refused += p.refused;
-        let next = p.account;
-        account = next;
+        let answer = judge(m, e);
+        refused += refusals(answer);
         k += 1;
         left -= 1;
     }
-    Ran { account, refused }
-}
-
-// Account i of an accepted book, posted record by record to a fresh account, and how many records were refused.
-pub fn post_account(b: &[u8], i: usize) -> Ran
-    requires { ⌜ bookRefusal (now b) ≡ 0 ⌝ }
-    ensures { λ r. ⌜ RanOver r (accountOf (now (b .entry)) i) ⌝ }
-{
-    let mut days = [0u32; 64];
-    let mut amounts = [0u64; 64];
-    let mut uptos = [0u64; 64];
-    let mut recent = [0u64; 32];
-    run_account(b, i, &mut days, &mut amounts, &mut uptos, &mut recent)
+    refused
 }
 
 // Notes the answer to each record of account i and what is owed after it, from the start of both slices on.
@@ -76,8 +51,9 @@ fn note_account(b: &[u8], i: usize, numbers: &mut [u8], owed: &mut [i64])
         let p = account.post(book::record(b, k));
         let answer = p.answer;
         let next = p.account;
+        let memory = next.memory;
         numbers[at] = answer.number();
-        owed[at] = next.owed();
+        owed[at] = questions::owed(&memory);
         account = next;
         k += 1;
         at += 1;

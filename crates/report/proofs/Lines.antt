@@ -13,23 +13,15 @@ use Rattle.rules.specs.Deposit.{held}
 use Rattle.rules.specs.Money.{owed, openItems}
 use Rattle.rules.specs.Service.{service, wordOf}
 use Rattle.rules.specs.Accepted.{accepted}
-use Rattle.ledger.specs.Ledger.{creditsBy}
-use Rattle.account.specs.declared.Account.{Account}
-use Rattle.account.specs.Account.{fresh, accountOk}
-use Rattle.account.specs.Post.{run}
-use Rattle.account.specs.Questions.{owedBy}
-use Rattle.bookpost.specs.declared.Ran.{Ran}
-use Rattle.bookpost.specs.Ran.{RanOver}
+use Rattle.account.specs.State.{State, stateOn, passes}
+use Rattle.questions.specs.Questions.{asked}
+use Rattle.claim.specs.Replay.{Ran}
 use Rattle.layout.specs.Book.{AccountList}
 use Rattle.text.specs.Decimal.{width, decimal, signed}
 use Rattle.text.proofs.Numerals.{length-decimal, length-marked, width-short, signed-short}
 use Rattle.report.specs.declared.Standing.{Standing}
-use Rattle.report.specs.Standing.{Stands, marked, statePart, standingLine}
+use Rattle.report.specs.Standing.{Stands, standingOn, marked, statePart, standingLine}
 use Rattle.report.specs.Report.{line, lineOf, linesOf}
-
-owes : (a : Account) → accountOk a ≡ true → subℕ (a .ledger .charged) (creditsBy (a .ledger)) ≡ owedBy a
-unfolding owedBy
-owes a e = rw e
 
 word-short : (v : Service) → length (wordOf v) ≤ 6
 word-short On = omega arith
@@ -37,24 +29,19 @@ word-short Off = omega arith
 word-short Closed = omega arith
 
 -- where an account stands, by demand 3
-pub stands : (p : Ran) (es : List Event) → RanOver p es
-    → Stands
-    (record {
-      charged = p .account .sums .charged;
-      credits = p .account .sums .credited - p .account .sums .«paid_out»;
-      held = p .account .deposit .held;
-      «open_count» = p .account .sums .count;
-      service = p .account .collection .status .service;
-      refused = p .refused;
-    }) es (accepted es)
-stands p es s =
-    let k = s .parts in
+asked-of : {A : Type 0} (m : List ℕ) (ask : State → A) (none : A) → passes m ≡ true → ask (stateOn m) ≡ asked m ask none
+unfolding asked
+asked-of m ask none q = rw q
+
+pub stands : (m : List ℕ) (r : ℕ) (es : List Event) → Ran m r es → Stands (standingOn m r) es (accepted es)
+stands m r es s =
+    let k = s .claim in
     record {
-      owing = rw (k .charged-is, k .credited-is, k .paid-is) (owes (run fresh es) (s .claim .passes) ∙ s .claim .owing);
-      holding = ap (λ d. d .held) (k .deposit-is) ∙ s .claim .holding;
-      opens = k .count-is ∙ s .claim .counting;
-      serving = ap (λ c. c .status .service) (k .collection-is) ∙ s .claim .serving;
-      refusing = omega (arith, s .refused-is, s .claim .refused);
+      owing = asked-of m _ _ (k .passing) ∙ k .owing;
+      holding = asked-of m _ _ (k .passing) ∙ k .holding;
+      opens = asked-of m _ _ (k .passing) ∙ k .counting;
+      serving = asked-of m _ _ (k .passing) ∙ k .serving;
+      refusing = omega (arith, s .refused-is, k .refused);
     }
 
 regroup : (x y z s : List ℕ) → (x ++ (y ++ z)) ++ s ≡ x ++ (y ++ (z ++ s))

@@ -9,6 +9,9 @@ use Rattle.rules.specs.History.{History}
 use Rattle.rules.specs.Deposit.{held}
 use Rattle.rules.specs.Money.{owed, openItems}
 use Rattle.rules.specs.Service.{service, wordOf}
+use Rattle.collection.specs.Collection.{serviceBy}
+use Rattle.ledger.specs.Ledger.{creditsBy}
+use Rattle.account.specs.State.{stateOn}
 use Rattle.text.specs.Decimal.{decimal, signed}
 use Rattle.report.specs.declared.Standing.{Standing}
 
@@ -19,6 +22,18 @@ pub record Stands (s : Standing) (es : List Event) (h : History) : Type 0 where
   pub opens : s .«open_count» ≡ length (openItems h)
   pub serving : s .service ≡ service h
   pub refusing : s .refused ≡ length es - length h
+
+-- where the account in memory m stands, of whose events so many were refused
+abbrev pub standingOn : List ℕ → ℕ → Standing
+standingOn m refused =
+    record {
+      charged = stateOn m .ledger .charged;
+      credits = creditsBy (stateOn m .ledger);
+      held = stateOn m .deposit .held;
+      «open_count» = stateOn m .ledger .made - stateOn m .ledger .closed;
+      service = serviceBy (stateOn m .collection .service);
+      refused = refused;
+    }
 
 -- a word and the byte after it
 abbrev pub marked : List ℕ → ℕ → List ℕ

@@ -1,7 +1,12 @@
 // The standing of every account of a book, as text in lent memory. The accounts are posted in place, record by record.
 mod line;
 
-use bookpost::post_account;
+use account::WORDS;
+use account::spans::COLLECTION;
+use account::spans::DEPOSIT;
+use account::spans::LEDGER;
+use account::spans::MEDICAL;
+use bookpost::run_account;
 use line::line_length;
 use line::put_line;
 use little::get;
@@ -17,7 +22,8 @@ ghost use Rattle.rules.specs.Accepted.{accepted};
 ghost use Rattle.layout.specs.Book.{accounts, bookRefusal, decode};
 ghost use Rattle.layout.specs.Finding.{accountOf};
 ghost use Rattle.text.specs.Put.{Put};
-ghost use Rattle.report.specs.Standing.{Stands};
+ghost use Rattle.account.specs.State.{accountSize};
+ghost use Rattle.report.specs.Standing.{Stands, standingOn};
 ghost use Rattle.report.specs.Report.{lineOf, linesOf, listing, refusedText, inputText, Wrote, Reported};
 
 // Where an account stands after its records. What is owed is charged less credits, which may be negative.
@@ -97,25 +103,33 @@ const BOOK_REFUSED: [u8; 13] = [
     b' ',
 ];
 
-// Where account i of an accepted book stands.
+// Where the account in memory m stands, of whose records so many were refused.
+fn standing_in(m: &[u64], refused: u64) -> Standing
+    requires { ⌜ length (now m) ≡ accountSize ⌝ }
+    ensures { λ r. ⌜ r ≡ standingOn (now (m .entry)) refused ⌝ }
+{
+    let s = ledger::sums_of(&m[LEDGER..WORDS]);
+    let d = deposit::load(&m[DEPOSIT..MEDICAL]);
+    let c = collection::load(&m[COLLECTION..DEPOSIT]);
+    let service = c.service();
+    Standing {
+        charged: s.charged,
+        credits: s.credits,
+        held: d.held,
+        open_count: s.open_count,
+        service,
+        refused,
+    }
+}
+
+// Where account i of an accepted book stands: it is posted in memory of this function's own.
 fn standing_of(b: &[u8], i: usize) -> Standing
     requires { ⌜ bookRefusal (now b) ≡ 0 ⌝ }
     ensures { λ r. ⌜ Stands r (accountOf (now (b .entry)) i) (accepted (accountOf (now (b .entry)) i)) ⌝ }
 {
-    let ran = post_account(b, i);
-    let a = ran.account;
-    let s = a.sums;
-    let d = a.deposit;
-    let c = a.collection;
-    let service = c.service();
-    Standing {
-        charged: s.charged,
-        credits: s.credits(),
-        held: d.held,
-        open_count: s.count as u64,
-        service,
-        refused: ran.refused,
-    }
+    let mut memory = [0u64; WORDS];
+    let refused = run_account(b, i, &mut memory);
+    standing_in(&memory, refused)
 }
 
 // Stores the line of account i, and says where the text goes on.

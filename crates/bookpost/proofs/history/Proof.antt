@@ -6,9 +6,6 @@ use borrow.Author.Needs.{needs}
 use Rattle.bookpost.proofs.history.Statement.{statement}
 use Rattle.bookpost.proofs.history.Tie as tie
 
-history-refusal-requires : tie.Need-history-refusal-requires
-history-refusal-requires c κs = search needs
-
 returns : tie.Need-returns
 returns c =
     let e = c .before .history-refusal .ensures in
@@ -20,12 +17,6 @@ note-account-requires c κs =
     let s = c .before .before .before .before .before .before .args in
     history-room (s .b .now) (s .i) (s .numbers .now) (s .owed .now) (sym (c .before .before .before .history-refusal .ensures) ∙ c .before .before .if1 .left)
 
-same-length : tie.Need-same-length
-same-length c = search needs
-
-same-length-2 : tie.Need-same-length-2
-same-length-2 c = search needs
-
 returns-2 : tie.Need-returns-2
 returns-2 c =
     let s = c .before .before .before .before .before .before .before .before .before .before .args in
@@ -35,10 +26,4 @@ returns-2 c =
 pub history-spec : {M : Type 1} → statement M
 history-spec =
     tie.close
-    (tie.spec
-    history-refusal-requires
-    returns
-    note-account-requires
-    same-length
-    same-length-2
-    returns-2)
+    (tie.spec (λ c κs. search needs) returns note-account-requires (λ c. search needs) (λ c. search needs) returns-2)

@@ -5,17 +5,8 @@ use borrow.Author.Needs.{needs}
 use Rattle.bookpost.proofs.history_refusal.Statement.{statement}
 use Rattle.bookpost.proofs.history_refusal.Tie as tie
 
-book-refusal-requires : tie.Need-book-refusal-requires
-book-refusal-requires c κs = search needs
-
 returns : tie.Need-returns
 returns c = or-first _ _ _ (c .before .book-refusal .ensures) (c .if1 .taken)
-
-account-requires : tie.Need-account-requires
-account-requires c κs = search needs
-
-select8-requires : tie.Need-select8-requires
-select8-requires c κs = search needs
 
 returns-2 : tie.Need-returns-2
 returns-2 c =
@@ -28,4 +19,5 @@ returns-2 c =
 
 pub history-refusal-spec : {M : Type 1} → statement M
 history-refusal-spec =
-    tie.close (tie.spec book-refusal-requires returns account-requires select8-requires returns-2)
+    tie.close
+    (tie.spec (λ c κs. search needs) returns (λ c κs. search needs) (λ c κs. search needs) returns-2)

@@ -6,12 +6,6 @@ use borrow.Author.Needs.{needs}
 use Rattle.report.proofs.account_length.Statement.{statement}
 use Rattle.report.proofs.account_length.Tie as tie
 
-standing-of-requires : tie.Need-standing-of-requires
-standing-of-requires c κs = search needs
-
-line-length-requires : tie.Need-line-length-requires
-line-length-requires c κs = search needs
-
 returns : tie.Need-returns
 returns c =
     let s = c .before .before .before .args in
@@ -19,4 +13,6 @@ returns c =
     (c .line-length .ensures .0 ∙ ap length (line-is (s .i) (t .result) (accountOf (s .b .now) (s .i)) (t .ensures)), c .line-length .ensures .1)
 
 pub account-length-spec : {M : Type 1} → statement M
-account-length-spec = tie.close (tie.spec standing-of-requires line-length-requires returns)
+account-length-spec =
+    tie.close
+    (tie.spec (λ c κs. search needs) (λ c κs. search needs) returns)

@@ -17,9 +17,6 @@ returns c =
     let s = c .before .before in
     sym (plenty (s .args .b .now) (s .args .room) (omega arith))
 
-lines-length-requires : tie.Need-lines-length-requires
-lines-length-requires c κs = search needs
-
 add-result : tie.Need-add-result
 add-result c = omega (arith, c .lines-length .ensures .1, book-facts (c .before .before .before .args .b .now) (c .before .before .before .pre .0) .0 .few)
 
@@ -30,4 +27,5 @@ returns-2 c =
 
 pub is-short-spec : {M : Type 1} → statement M
 is-short-spec =
-    tie.close (tie.spec mul-if1 add-if1 returns lines-length-requires add-result returns-2)
+    tie.close
+    (tie.spec mul-if1 add-if1 returns (λ c κs. search needs) add-result returns-2)

@@ -14,17 +14,8 @@ abbrev μ-loop : tie.MeasureT-loop
 loop-holds : tie.Need-loop-holds Inv-loop μ-loop
 loop-holds c = count-begin _ (search needs)
 
-account-length-requires : tie.Need-account-length-requires Inv-loop μ-loop
-account-length-requires c κs = search needs
-
 add-sum : tie.Need-add-sum Inv-loop μ-loop
 add-sum c = omega (arith, c .before .before .loop .inv, c .account-length .ensures .1)
-
-add-i : tie.Need-add-i Inv-loop μ-loop
-add-i c = search needs
-
-loop-less : tie.Need-loop-less Inv-loop μ-loop
-loop-less c = search needs
 
 loop-again : tie.Need-loop-again Inv-loop μ-loop
 loop-again c =
@@ -39,13 +30,5 @@ returns c =
 pub lines-length-spec : {M : Type 1} → statement M
 lines-length-spec =
     tie.close
-    (tie.spec
-    Inv-loop
-    μ-loop
-    loop-holds
-    account-length-requires
-    add-sum
-    add-i
-    loop-less
-    loop-again
-    returns)
+    (tie.spec Inv-loop μ-loop loop-holds (λ c κs. search needs) add-sum (λ c. search needs) (λ c. search needs)
+    loop-again returns)

@@ -20,12 +20,6 @@ put-account-requires c κs =
     let l = c .before .before .loop in
     (search needs, line-room _ _ (l .out) _ (l .at) (l .i) (l .inv) (omega arith) (search needs))
 
-add-i : tie.Need-add-i Inv-loop μ-loop
-add-i c = search needs
-
-loop-less : tie.Need-loop-less Inv-loop μ-loop
-loop-less c = search needs
-
 loop-again : tie.Need-loop-again Inv-loop μ-loop
 loop-again c =
     let l = c .before .before .before .before .before .loop in
@@ -43,13 +37,5 @@ returns c =
 pub put-lines-spec : {M : Type 1} → statement M
 put-lines-spec =
     tie.close
-    (tie.spec
-    Inv-loop
-    μ-loop
-    loop-holds
-    put-account-requires
-    add-i
-    loop-less
-    loop-again
-    same-length
-    returns)
+    (tie.spec Inv-loop μ-loop loop-holds put-account-requires (λ c. search needs) (λ c. search needs) loop-again
+    same-length returns)

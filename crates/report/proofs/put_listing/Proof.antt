@@ -7,9 +7,6 @@ use borrow.Author.Needs.{needs}
 use Rattle.report.proofs.put_listing.Statement.{statement}
 use Rattle.report.proofs.put_listing.Tie as tie
 
-slice-aggregate-put-bytes : tie.Need-slice-aggregate-put-bytes
-slice-aggregate-put-bytes c = search needs
-
 put-bytes-requires : tie.Need-put-bytes-requires
 put-bytes-requires c κs =
     let s = c .before .before .before .before in
@@ -22,9 +19,6 @@ put-lines-requires c κs =
     let a = c .before .before .before .put-bytes in
     (s .pre .0, s .pre .1, room-then heading (linesOf 0 (decode (s .args .b .now))) (s .args .out .now) (a .last .0) 0 (a .result) (omega arith) (a .ensures))
 
-same-length : tie.Need-same-length
-same-length c = search needs
-
 returns : tie.Need-returns
 unfolding listing
 returns c =
@@ -35,4 +29,4 @@ returns c =
 pub put-listing-spec : {M : Type 1} → statement M
 put-listing-spec =
     tie.close
-    (tie.spec slice-aggregate-put-bytes put-bytes-requires put-lines-requires same-length returns)
+    (tie.spec (λ c. search needs) put-bytes-requires put-lines-requires (λ c. search needs) returns)

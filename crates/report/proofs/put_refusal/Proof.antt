@@ -1,4 +1,3 @@
-use Prim.Native.Nat.{_+_}
 use mathlib.Core.List.{[], _∷_, _++_}
 use native.Mathlib.Omega.{arith}
 use Rattle.basics.specs.Ascii.{ascii}
@@ -10,22 +9,10 @@ use borrow.Author.Needs.{needs}
 use Rattle.report.proofs.put_refusal.Statement.{statement}
 use Rattle.report.proofs.put_refusal.Tie as tie
 
-width-requires : tie.Need-width-requires
-width-requires c κs = search needs
-
-add-if1 : tie.Need-add-if1
-add-if1 c = search needs
-
 returns : tie.Need-returns
 returns c =
     let s = c .before .before .before .args in
     too-short (refusedText (s .n)) (s .out .now) (omega (arith, refused-length (s .n), c .before .width .ensures .0))
-
-slice-aggregate-put-bytes : tie.Need-slice-aggregate-put-bytes
-slice-aggregate-put-bytes c = search needs
-
-put-bytes-requires : tie.Need-put-bytes-requires
-put-bytes-requires c κs = search needs
 
 put-number-requires : tie.Need-put-number-requires
 unfolding refusedText
@@ -34,9 +21,6 @@ put-number-requires c κs =
     let a = c .before .before .before .put-bytes in
     let w = c .before .before .before .before .before .before .before .width in
     room-then (ascii "book refused ") (decimal (s .n) ++ (10 ∷ [])) (s .out .now) (a .last .0) 0 (a .result) (omega (arith, refused-length (s .n), w .ensures .0)) (a .ensures)
-
-same-length : tie.Need-same-length
-same-length c = search needs
 
 returns-2 : tie.Need-returns-2
 unfolding refusedText
@@ -50,12 +34,5 @@ returns-2 c =
 pub put-refusal-spec : {M : Type 1} → statement M
 put-refusal-spec =
     tie.close
-    (tie.spec
-    width-requires
-    add-if1
-    returns
-    slice-aggregate-put-bytes
-    put-bytes-requires
-    put-number-requires
-    same-length
-    returns-2)
+    (tie.spec (λ c κs. search needs) (λ c. search needs) returns (λ c. search needs) (λ c κs. search needs)
+    put-number-requires (λ c. search needs) returns-2)

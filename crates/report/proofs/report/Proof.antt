@@ -9,15 +9,6 @@ use borrow.Author.Needs.{needs}
 use Rattle.report.proofs.report.Statement.{statement}
 use Rattle.report.proofs.report.Tie as tie
 
-book-refusal-requires : tie.Need-book-refusal-requires
-book-refusal-requires c κs = search needs
-
-put-refusal-requires : tie.Need-put-refusal-requires
-put-refusal-requires c κs = search needs
-
-same-length : tie.Need-same-length
-same-length c = search needs
-
 returns : tie.Need-returns
 returns c =
     let b = c .before .before .before .before .before .before .before .before .args .b .now in
@@ -47,9 +38,6 @@ put-listing-requires c κs =
     let s = c .before .before .before .before .before .before .before .before .args in
     (sym (c .before .before .before .before .before .book-refusal .ensures) ∙ c .before .before .before .before .if1 .left, c .before .before .before .get .ensures .0, ltb-false _ _ (sym (c .before .before .is-short .ensures) ∙ c .before .if2 .left))
 
-same-length-2 : tie.Need-same-length-2
-same-length-2 c = search needs
-
 returns-3 : tie.Need-returns-3
 returns-3 c =
     let s = c .before .before .before .before .before .before .before .before .before .before .before .args in
@@ -61,14 +49,5 @@ returns-3 c =
 pub report-spec : {M : Type 1} → statement M
 report-spec =
     tie.close
-    (tie.spec
-    book-refusal-requires
-    put-refusal-requires
-    same-length
-    returns
-    get-requires
-    is-short-requires
-    returns-2
-    put-listing-requires
-    same-length-2
-    returns-3)
+    (tie.spec (λ c κs. search needs) (λ c κs. search needs) (λ c. search needs) returns get-requires is-short-requires
+    returns-2 put-listing-requires (λ c. search needs) returns-3)

@@ -21,9 +21,6 @@ put-state-requires c κs =
     let a = c .before .before .before .put-money in
     room-then x y (s .out .now) (a .last .0) (s .p) (a .result) (search needs) (a .ensures)
 
-same-length : tie.Need-same-length
-same-length c = search needs
-
 returns : tie.Need-returns
 unfolding standingLine
 returns c =
@@ -34,4 +31,6 @@ returns c =
     put-then x y (s .out .now) (a .last .0) _ (s .p) (a .result) _ (a .ensures) (c .before .before .put-state .ensures)
 
 pub put-line-spec : {M : Type 1} → statement M
-put-line-spec = tie.close (tie.spec put-money-requires put-state-requires same-length returns)
+put-line-spec =
+    tie.close
+    (tie.spec put-money-requires put-state-requires (λ c. search needs) returns)
