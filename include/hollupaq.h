@@ -16,7 +16,6 @@
 #ifndef HOLLUPAQ_H
 #define HOLLUPAQ_H
 
-#include <stdbool.h>
 #include <stddef.h>
 #include <stdint.h>
 
@@ -69,23 +68,27 @@ uint8_t hollupaq_history(const uint8_t *book, size_t book_len, size_t account,
                          int64_t *owed, size_t owed_len);
 
 /* How many words of 64 bits an account takes. */
-#define HOLLUPAQ_ACCOUNT_WORDS 242
+#define HOLLUPAQ_WORDS 187
 
 /*
- * An account, in the caller's memory. Only hollupaq_fresh makes one, and only
- * hollupaq_post changes it: what the words hold is the library's own business,
- * and nobody else writes into them. Other words do no harm, but what is said
- * of them means nothing. There is no pointer in it, so that it may be copied
- * as plain memory: by assignment, with memcpy, or into a file from which the
- * same version of the library reads it back on the same kind of machine. Every
- * byte of it is set, and by the accepted events alone: accounts to which the
- * same events were posted are equal bytes. Two threads may not post to the
+ * An account is HOLLUPAQ_WORDS words in the caller's memory,
+ *
+ *   uint64_t account[HOLLUPAQ_WORDS];
+ *
+ * lent to each call as a pointer and a length in words. Only hollupaq_fresh
+ * makes one, and only hollupaq_post and hollupaq_post_at change it: what the
+ * words hold is the library's own business, and nobody else writes into them.
+ * Any words may be lent, and every call but hollupaq_fresh tests them first.
+ * Memory of another length, or whose words fail the test, is no account, and
+ * is left alone. Not all words that the library did not leave so fail it; what
+ * is said of such words means nothing, but does no harm. There is no pointer
+ * in an account, so that it may be copied as plain memory: with memcpy, or
+ * into a file from which the same version of the library reads it back. Every
+ * word of it is set, and by the accepted events alone: accounts to which the
+ * same events were posted are equal words. Two threads may not post to the
  * same account at once, nor may one ask it something while another posts to
  * it.
  */
-typedef struct {
-    uint64_t words[HOLLUPAQ_ACCOUNT_WORDS];
-} hollupaq_account;
 
 /* The kinds of events. A field of which a kind says nothing has to be 0. */
 enum {
@@ -107,64 +110,76 @@ enum {
     HOLLUPAQ_CLOSE = 16
 };
 
-/* One event. Day 0 is 1 January 2000. */
-typedef struct {
-    uint8_t kind;
-    uint8_t option;
-    uint32_t day;
-    uint64_t amount;
-} hollupaq_event;
+/*
+ * How many words an account of the library takes. Where this is not
+ * HOLLUPAQ_WORDS, the header and the library do not belong together.
+ */
+uint64_t hollupaq_words(void);
 
 /*
- * The answer to an event. Accepted: the number is the receipt of a payment
- * (1, 2, ..), and 0 for any other event. Refused: it is the number (1 to 19)
- * of the rule that refuses the event, or 0 where the memory shows that it is
- * not an account that the library made; not all such memory shows it.
+ * Makes the memory an account without events: service on, all sums 0. Returns
+ * 1 when this is done, and 0, with nothing written, where `words` is not
+ * HOLLUPAQ_WORDS.
  */
-typedef struct {
-    bool accepted;
-    uint64_t number;
-} hollupaq_answer;
+uint8_t hollupaq_fresh(uint64_t *account, size_t words);
 
-/* A charge that is not paid in full: its day, and the cents still unpaid. */
-typedef struct {
-    uint32_t day;
-    uint64_t unpaid;
-} hollupaq_open_item;
+/* An answer from here on is an acceptance; one below it a refusal. */
+#define HOLLUPAQ_ACCEPTED 256
 
 /*
- * How many bytes an account of the library has. Where this is not
- * sizeof(hollupaq_account), the header and the library do not belong together,
- * and no account may be lent.
+ * Posts one event, of any kind and any numbers. Day 0 is 1 January 2000.
+ *
+ * Returns HOLLUPAQ_ACCEPTED and the receipt of a payment (1, 2, ..) added to
+ * it, or HOLLUPAQ_ACCEPTED alone for any other event. Returns a number below
+ * it where the event is refused: that (1 to 19) of the rule that refuses it,
+ * or 0 where the memory is no account. Then nothing is written.
  */
-uint64_t hollupaq_account_bytes(void);
-
-/* An account without events: service on, all sums 0. */
-hollupaq_account hollupaq_fresh(void);
+uint64_t hollupaq_post(uint64_t *account, size_t words,
+                       uint8_t kind, uint8_t option, uint32_t day,
+                       uint64_t amount);
 
 /*
- * Posts one event, of any kind and any numbers. A refused event leaves every
- * byte of the account as it was.
+ * The same on account i, counted from 0, of many that lie one after the other;
+ * `words` is the length of all of them. The others are left as they were.
+ * Returns 0, with nothing written, where there is no account i.
  */
-hollupaq_answer hollupaq_post(hollupaq_account *account, hollupaq_event event);
+uint64_t hollupaq_post_at(uint64_t *accounts, size_t words, size_t i,
+                          uint8_t kind, uint8_t option, uint32_t day,
+                          uint64_t amount);
 
-/* What is owed in cents, negative where there is credit. */
-int64_t hollupaq_owed(const hollupaq_account *account);
+/* Whether an answer is an acceptance, 1 or 0. */
+static inline int hollupaq_accepted(uint64_t answer)
+{
+    return answer >= HOLLUPAQ_ACCEPTED;
+}
+
+/* The receipt in an answer, 0 where it is not that of an accepted payment. */
+static inline uint64_t hollupaq_receipt(uint64_t answer)
+{
+    return answer >= HOLLUPAQ_ACCEPTED ? answer - HOLLUPAQ_ACCEPTED : 0;
+}
+
+/*
+ * What is owed in cents, negative where there is credit. This and the amounts
+ * and counts below are 0 where the memory is no account.
+ */
+int64_t hollupaq_owed(const uint64_t *account, size_t words);
 
 /* The deposit held, and the deposit required, in cents. */
-uint64_t hollupaq_held(const hollupaq_account *account);
-uint64_t hollupaq_required(const hollupaq_account *account);
+uint64_t hollupaq_held(const uint64_t *account, size_t words);
+uint64_t hollupaq_required(const uint64_t *account, size_t words);
 
-/* Service: 0 on, 1 off, 2 closed. */
-uint32_t hollupaq_service(const hollupaq_account *account);
+/* Service: 0 on, 1 off, 2 closed; 2 too where the memory is no account. */
+uint32_t hollupaq_service(const uint64_t *account, size_t words);
 
 /*
- * How many items are open, and one of them, counted from 0 in the order
- * posted. Past the last one, day and unpaid are 0.
+ * The open items, charges that are not paid in full: how many there are; and
+ * the day of one, counted from 0 in the order posted, and the cents of it that
+ * are still unpaid. Past the last one, both are 0.
  */
-uint64_t hollupaq_open_count(const hollupaq_account *account);
-hollupaq_open_item hollupaq_open_item_at(const hollupaq_account *account,
-                                         size_t index);
+uint64_t hollupaq_open_count(const uint64_t *account, size_t words);
+uint64_t hollupaq_open_day(const uint64_t *account, size_t words, size_t i);
+uint64_t hollupaq_open_unpaid(const uint64_t *account, size_t words, size_t i);
 
 #ifdef __cplusplus
 }

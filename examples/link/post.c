@@ -20,44 +20,51 @@
 #include <inttypes.h>
 #include <stdio.h>
 
+struct event {
+    uint8_t kind;
+    uint8_t option;
+    uint32_t day;
+    uint64_t amount;
+};
+
 /* Two bills, a payment, and a disconnection that no final notice announced. */
-static const hollupaq_event events[] = {
+static const struct event events[] = {
     {HOLLUPAQ_BILL, 0, 100, 10000},
     {HOLLUPAQ_BILL, 0, 130, 5000},
     {HOLLUPAQ_PAYMENT, 0, 131, 4000},
     {HOLLUPAQ_CUT, 0, 131, 0},
 };
 
-static void post(hollupaq_account *account, hollupaq_event event)
+static uint64_t account[HOLLUPAQ_WORDS];
+
+static void post(struct event event)
 {
-    hollupaq_answer answer = hollupaq_post(account, event);
+    uint64_t answer = hollupaq_post(account, HOLLUPAQ_WORDS, event.kind,
+                                    event.option, event.day, event.amount);
 
     printf("day %" PRIu32 ", kind %d: ", event.day, event.kind);
-    if (!answer.accepted)
-        printf("refused %" PRIu64, answer.number);
-    else if (answer.number != 0)
-        printf("accepted, receipt %" PRIu64, answer.number);
+    if (!hollupaq_accepted(answer))
+        printf("refused %" PRIu64, answer);
+    else if (hollupaq_receipt(answer) != 0)
+        printf("accepted, receipt %" PRIu64, hollupaq_receipt(answer));
     else
         printf("accepted");
-    printf("; owed %" PRId64 "\n", hollupaq_owed(account));
+    printf("; owed %" PRId64 "\n", hollupaq_owed(account, HOLLUPAQ_WORDS));
 }
 
 int main(void)
 {
-    hollupaq_account account;
     size_t i;
 
-    if (hollupaq_account_bytes() != sizeof account) {
+    if (!hollupaq_fresh(account, HOLLUPAQ_WORDS)) {
         fprintf(stderr, "post-c: hollupaq.h is not of this library\n");
         return 1;
     }
-    account = hollupaq_fresh();
     for (i = 0; i < sizeof events / sizeof events[0]; i++)
-        post(&account, events[i]);
-    for (i = 0; i < hollupaq_open_count(&account); i++) {
-        hollupaq_open_item item = hollupaq_open_item_at(&account, i);
-
-        printf("open: %" PRIu64 " of day %" PRIu32 "\n", item.unpaid, item.day);
-    }
+        post(events[i]);
+    for (i = 0; i < hollupaq_open_count(account, HOLLUPAQ_WORDS); i++)
+        printf("open: %" PRIu64 " of day %" PRIu64 "\n",
+               hollupaq_open_unpaid(account, HOLLUPAQ_WORDS, i),
+               hollupaq_open_day(account, HOLLUPAQ_WORDS, i));
     return fflush(stdout) == 0 ? 0 : 1;
 }

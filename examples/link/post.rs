@@ -5,94 +5,74 @@
 //   target/post-rust
 //
 // It prints what examples/link/post.c prints. The crate `tools` has the same calls with a safe wrapper and tests
-// (tools/src/core/account.rs).
-use std::mem::size_of;
+// (tools/src/core/lent.rs, tools/src/core/account.rs).
 use std::process::ExitCode;
-
-#[repr(C)]
-struct Account {
-    words: [u64; 242],
-}
-
-#[derive(Clone, Copy)]
-#[repr(C)]
-struct Event {
-    kind: u8,
-    option: u8,
-    day: u32,
-    amount: u64,
-}
-
-#[repr(C)]
-struct Answer {
-    accepted: bool,
-    number: u64,
-}
-
-#[repr(C)]
-struct OpenItem {
-    day: u32,
-    unpaid: u64,
-}
 
 #[link(name = "hollupaq", kind = "static")]
 extern "C" {
-    fn hollupaq_account_bytes() -> u64;
-    fn hollupaq_fresh() -> Account;
-    fn hollupaq_post(account: &mut Account, event: Event) -> Answer;
-    fn hollupaq_owed(account: &Account) -> i64;
-    fn hollupaq_open_count(account: &Account) -> u64;
-    fn hollupaq_open_item_at(account: &Account, index: usize) -> OpenItem;
+    fn hollupaq_fresh(account: *mut u64, words: usize) -> u8;
+    fn hollupaq_post(
+        account: *mut u64,
+        words: usize,
+        kind: u8,
+        option: u8,
+        day: u32,
+        amount: u64,
+    ) -> u64;
+    fn hollupaq_owed(account: *const u64, words: usize) -> i64;
+    fn hollupaq_open_count(account: *const u64, words: usize) -> u64;
+    fn hollupaq_open_day(account: *const u64, words: usize, index: usize) -> u64;
+    fn hollupaq_open_unpaid(account: *const u64, words: usize, index: usize) -> u64;
 }
+
+// An account takes so many words.
+const WORDS: usize = 187;
+// An answer from here on is an acceptance, and what is above it the receipt of a payment.
+const ACCEPTED: u64 = 256;
 
 const BILL: u8 = 1;
 const PAYMENT: u8 = 2;
 const CUT: u8 = 14;
 
-// Two bills, a payment, and a disconnection that no final notice announced.
-const EVENTS: [Event; 4] = [
-    event(BILL, 100, 10_000),
-    event(BILL, 130, 5_000),
-    event(PAYMENT, 131, 4_000),
-    event(CUT, 131, 0),
+// Two bills, a payment, and a disconnection that no final notice announced: kind, day and amount.
+const EVENTS: [(u8, u32, u64); 4] = [
+    (BILL, 100, 10_000),
+    (BILL, 130, 5_000),
+    (PAYMENT, 131, 4_000),
+    (CUT, 131, 0),
 ];
 
-const fn event(kind: u8, day: u32, amount: u64) -> Event {
-    Event {
-        kind,
-        option: 0,
-        day,
-        amount,
-    }
-}
-
-fn post(account: &mut Account, event: Event) {
-    // SAFETY: the account is one that the library made, it is borrowed alone, and the library keeps no pointer to it.
-    let (answer, owed) = unsafe { (hollupaq_post(account, event), hollupaq_owed(account)) };
-    let Event { kind, day, .. } = event;
-    let told = match (answer.accepted, answer.number) {
-        (true, 0) => "accepted".to_string(),
-        (true, receipt) => format!("accepted, receipt {receipt}"),
-        (false, number) => format!("refused {number}"),
+fn post(account: &mut [u64], kind: u8, day: u32, amount: u64) {
+    let (words, option) = (account.len(), 0);
+    // SAFETY here and below: the slice is valid for its length and borrowed, and the library keeps no pointer to it.
+    let answer = unsafe { hollupaq_post(account.as_mut_ptr(), words, kind, option, day, amount) };
+    let owed = unsafe { hollupaq_owed(account.as_ptr(), words) };
+    let told = match answer {
+        ACCEPTED => "accepted".to_string(),
+        0..ACCEPTED => format!("refused {answer}"),
+        _ => format!("accepted, receipt {}", answer - ACCEPTED),
     };
     println!("day {day}, kind {kind}: {told}; owed {owed}");
 }
 
+fn print_open_items(account: &[u64]) {
+    let (at, words) = (account.as_ptr(), account.len());
+    for i in 0..unsafe { hollupaq_open_count(at, words) } as usize {
+        let day = unsafe { hollupaq_open_day(at, words, i) };
+        let unpaid = unsafe { hollupaq_open_unpaid(at, words, i) };
+        println!("open: {unpaid} of day {day}");
+    }
+}
+
 fn main() -> ExitCode {
-    // SAFETY: it takes nothing.
-    if unsafe { hollupaq_account_bytes() } != size_of::<Account>() as u64 {
+    let mut account = [0; WORDS];
+    if unsafe { hollupaq_fresh(account.as_mut_ptr(), WORDS) } == 0 {
         eprintln!("post-rust: its account is not of this library");
         return ExitCode::FAILURE;
     }
-    // SAFETY: the account has the library's size.
-    let mut account = unsafe { hollupaq_fresh() };
-    for event in EVENTS {
-        post(&mut account, event);
+    for (kind, day, amount) in EVENTS {
+        post(&mut account, kind, day, amount);
     }
-    // SAFETY: the account is one that the library made, as above.
-    for index in 0..unsafe { hollupaq_open_count(&account) } {
-        let item = unsafe { hollupaq_open_item_at(&account, index as usize) };
-        println!("open: {} of day {}", item.unpaid, item.day);
-    }
+    print_open_items(&account);
     ExitCode::SUCCESS
 }

@@ -1,8 +1,9 @@
 //! The proved core, called through its static library (`rt staticlib hollupaq`).
 mod account;
+pub mod lent;
 
 use crate::book;
-pub use account::{account_bytes, Account, Answer, OpenItem, ACCOUNT_WORDS};
+pub use account::{Account, Accounts, Answer, OpenItem};
 
 extern "C" {
     // A slice of the core passes as its pointer and its length.

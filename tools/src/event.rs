@@ -1,8 +1,6 @@
 //! One event of an account, as a record of a book holds it.
 
-/// Laid out as the core takes it (include/hollupaq.h).
 #[derive(Clone, Copy, Debug, PartialEq, Eq, Default)]
-#[repr(C)]
 pub struct Event {
     pub kind: u8,
     pub option: u8,

@@ -1,17 +1,12 @@
-//! An account that the caller keeps, through the static library: a short story, its copies, and the memory it lies in.
+//! Accounts that the caller keeps, through the static library: a short story, its copies, and the memory they lie in.
 use std::fs;
 use std::hint::black_box;
-use std::mem::{align_of, size_of};
 use std::path::Path;
-use tools::core::{self, Account, Answer, OpenItem, ACCOUNT_WORDS};
+use tools::core::lent::{self, ACCEPTED, WORDS};
+use tools::core::{Account, Accounts, Answer, OpenItem};
 use tools::event::Event;
 use tools::kinds::KINDS;
 use tools::service::Service;
-
-extern "C" {
-    // The number itself: the wrapper has words for it.
-    fn hollupaq_service(account: &Account) -> u32;
-}
 
 /// The number that the C header gives a name, by `#define` or in its list of kinds.
 fn in_header(name: &str) -> Option<usize> {
@@ -22,7 +17,7 @@ fn in_header(name: &str) -> Option<usize> {
     number.trim_end_matches(',').parse().ok()
 }
 
-fn item(day: u32, unpaid: u64) -> OpenItem {
+fn item(day: u64, unpaid: u64) -> OpenItem {
     OpenItem { day, unpaid }
 }
 
@@ -51,9 +46,9 @@ fn to_the_cut() -> [Event; 4] {
 
 #[test]
 fn wrapper_header_and_library_agree_on_the_size() {
-    assert_eq!(size_of::<Account>() as u64, core::account_bytes());
-    assert_eq!(align_of::<Account>(), 8);
-    assert_eq!(in_header("HOLLUPAQ_ACCOUNT_WORDS"), Some(ACCOUNT_WORDS));
+    assert_eq!(lent::words(), WORDS as u64);
+    assert_eq!(in_header("HOLLUPAQ_WORDS"), Some(WORDS));
+    assert_eq!(in_header("HOLLUPAQ_ACCEPTED"), Some(ACCEPTED as usize));
 }
 
 #[test]
@@ -115,8 +110,7 @@ fn service_goes_off_and_ends() {
         told.map(Account::service),
         [Service::On, Service::Off, Service::Closed]
     );
-    // SAFETY: each account lives through the call.
-    assert_eq!(told.map(|a| unsafe { hollupaq_service(a) }), [0, 1, 2]);
+    assert_eq!(told.map(|a| lent::service(a.words())), [0, 1, 2]);
 }
 
 #[test]
@@ -132,6 +126,74 @@ fn a_copy_goes_its_own_way() {
         assert_eq!(account.post(Event::of(2, 5, 500)), Answer::Accepted(1));
         assert_eq!(account.owed(), 5_500);
     }
+}
+
+/// What memory that is no account tells, and that nothing writes to it.
+fn is_no_account(memory: &[u64]) {
+    let mut after = memory.to_vec();
+    assert_eq!(lent::post(&mut after, Event::of(2, 30, 1)), 0);
+    assert_eq!(after, memory);
+    assert_eq!(lent::owed(memory), 0);
+    assert_eq!((lent::held(memory), lent::required(memory)), (0, 0));
+    assert_eq!(lent::service(memory), 2);
+    assert_eq!(lent::open_count(memory), 0);
+    assert_eq!(
+        (lent::open_day(memory, 0), lent::open_unpaid(memory, 0)),
+        (0, 0)
+    );
+}
+
+#[test]
+fn memory_of_another_length_is_no_account() {
+    let account = after(&[Event::of(1, 0, 6_000), Event::of(5, 1, 20_000)]);
+    let mut longer = account.words().to_vec();
+    longer.push(0);
+    for length in [0, 1, WORDS - 1, WORDS + 1] {
+        let mut memory = longer[..length].to_vec();
+        is_no_account(&memory);
+        assert_eq!(lent::fresh(&mut memory), 0);
+        assert_eq!(memory, longer[..length]);
+    }
+}
+
+#[test]
+fn any_words_are_answered() {
+    is_no_account(&[u64::MAX; WORDS]);
+    let mut memory = [u64::MAX; WORDS];
+    assert_eq!(lent::fresh(&mut memory), 1);
+    assert_eq!(memory, *Account::fresh().words());
+}
+
+#[test]
+fn an_answer_is_a_refusal_below_256() {
+    assert_eq!(Answer::of(0), Answer::Refused(0));
+    assert_eq!(Answer::of(19), Answer::Refused(19));
+    assert_eq!(Answer::of(255), Answer::Refused(255));
+    assert_eq!(Answer::of(256), Answer::Accepted(0));
+    assert_eq!(Answer::of(257), Answer::Accepted(1));
+}
+
+#[test]
+fn one_of_many_accounts_is_posted_to() {
+    let mut many = Accounts::fresh(3);
+    assert_eq!((many.count(), many.words().len()), (3, 3 * WORDS));
+    let bill = Event::of(1, 7, 6_000);
+    assert_eq!(many.post_at(1, bill), Answer::Accepted(0));
+    assert_eq!(many.post_at(2, Event::of(2, 7, 5)), Answer::Accepted(1));
+    let owed = |index| many.account(index).map(|account| account.owed());
+    assert_eq!(
+        [0, 1, 2, 3].map(owed),
+        [Some(0), Some(6_000), Some(-5), None]
+    );
+    assert_eq!(many.account(1), Some(after(&[bill])));
+    let before = many.clone();
+    // The last but one of these begins past the end of all memory, and would come round to the first account.
+    for index in [3, 4, usize::MAX / WORDS + 1, usize::MAX] {
+        assert_eq!(many.post_at(index, bill), Answer::Refused(0));
+    }
+    assert_eq!(many.post_at(0, Event::of(14, 7, 0)), Answer::Refused(10));
+    assert_eq!(many, before);
+    assert_eq!(Accounts::fresh(0).post_at(0, bill), Answer::Refused(0));
 }
 
 #[test]

@@ -1,1 +1,1 @@
-mod Types
+pub mod Demand

@@ -1,87 +1,162 @@
-// An account that a program in another language keeps in its own memory, and posts to one event at a time.
-use account::OpenItem;
-use plain::PlainAccount;
-use plain::PlainAnswer;
+// An account that a program in another language keeps in its own memory, and posts to one event at a time. Only pointers with
+// lengths, and numbers, cross the boundary.
+use account::WORDS;
+use rules::Answer;
 use rules::Event;
+use rules::Service;
 ghost use mathlib.Core.Path.{_≡_};
+ghost use Prim.Native.Nat.{_≤_};
 ghost use lib.ListN.{getD};
-ghost use Rattle.account.specs.Questions.{owedBy, openBy, noItem};
-ghost use Rattle.plain.specs.Plain.{serviceNumber, serviceBy, accountBy, plainFresh, PlainLeaves};
-ghost use Rattle.hollupaq.specs.Plain.{accountBytes};
+ghost use Rattle.rules.specs.Answer.{receiptOf};
+ghost use Rattle.collection.specs.Collection.{serviceNumber};
+ghost use Rattle.ledger.specs.Ledger.{noItem};
+ghost use Rattle.account.specs.State.{accountSize};
+ghost use Rattle.questions.specs.Questions.{owedIn, heldIn, requiredIn, serviceIn, openIn, countIn};
+ghost use Rattle.hollupaq.specs.Library.{answerWord, Keeps, KeepsAt, Begun};
 
-// How many bytes an account takes, so that a program can hold its header against the library.
-#[no_mangle]
-pub extern "C" fn hollupaq_account_bytes() -> u64
-    ensures { λ r. ⌜ r ≡ accountBytes ⌝ }
-{
-    1_936
-}
+// What is answered from here on is accepted: 256 and the receipt.
+const ACCEPTED: u64 = 256;
 
-// No events, service on, all sums 0.
-#[no_mangle]
-pub extern "C" fn hollupaq_fresh() -> PlainAccount
-    ensures { λ r. ⌜ r ≡ plainFresh ⌝ }
+fn word_of(a: Answer) -> u64
+    requires { ⌜ receiptOf a ≤ 1000000000001 ⌝ }
+    ensures { λ r. ⌜ r ≡ answerWord a ⌝ }
 {
-    plain::fresh()
-}
-
-// One event posted. A refused one leaves the account as it was.
-#[no_mangle]
-pub extern "C" fn hollupaq_post(a: &mut PlainAccount, e: Event) -> PlainAnswer
-    ensures { λ r. ⌜ PlainLeaves (now (a .entry)) e r (now (a .exit)) ⌝ }
-{
-    let p = plain::post(*a, e);
-    let answer = p.answer;
-    if answer.accepted {
-        *a = p.account;
+    match a {
+        Answer::Accepted(receipt) => ACCEPTED + receipt,
+        Answer::Refused(n) => n as u64,
     }
-    answer
+}
+
+fn number_of(s: Service) -> u32
+    ensures { λ r. ⌜ r ≡ serviceNumber s ⌝ }
+{
+    match s {
+        Service::On => 0,
+        Service::Off => 1,
+        Service::Closed => 2,
+    }
+}
+
+// How many words an account has, so that a program can hold its header against the library.
+#[no_mangle]
+pub extern "C" fn hollupaq_words() -> u64
+    ensures { λ r. ⌜ r ≡ accountSize ⌝ }
+{
+    WORDS as u64
+}
+
+// No events, service on, all sums 0: 1 where the memory is such an account now, 0 where it has not the words of one and stays
+// as it was.
+#[no_mangle]
+pub extern "C" fn hollupaq_fresh(account: &mut [u64]) -> u8
+    ensures { λ r. ⌜ Begun (now (account .entry)) r (now (account .exit)) ⌝ }
+{
+    if account.len() == WORDS {
+        account::clear(account);
+        return 1;
+    }
+    0
+}
+
+// One event posted. Under 256: refused by that number, 0 where the memory is no account, and it stays as it was. Else accepted:
+// 256 and the receipt of a payment.
+#[no_mangle]
+pub extern "C" fn hollupaq_post(
+    account: &mut [u64],
+    kind: u8,
+    option: u8,
+    day: u32,
+    amount: u64,
+) -> u64
+    ensures { λ r. ⌜ Keeps (now (account .entry)) (record { kind = kind; option = option; day = day; amount = amount }) r (now (account .exit)) ⌝ }
+{
+    let e = Event {
+        kind,
+        option,
+        day,
+        amount,
+    };
+    let answer = account::post(account, e);
+    word_of(answer)
+}
+
+// The same on account i, from 0, of many that lie one after another; 0 where there is no account i.
+#[no_mangle]
+pub extern "C" fn hollupaq_post_at(
+    accounts: &mut [u64],
+    i: usize,
+    kind: u8,
+    option: u8,
+    day: u32,
+    amount: u64,
+) -> u64
+    ensures { λ r. ⌜ KeepsAt i (now (accounts .entry)) (record { kind = kind; option = option; day = day; amount = amount }) r (now (accounts .exit)) ⌝ }
+{
+    let e = Event {
+        kind,
+        option,
+        day,
+        amount,
+    };
+    let answer = account::many::post_at(accounts, i, e);
+    word_of(answer)
 }
 
 // What is owed, negative where there is credit.
 #[no_mangle]
-pub extern "C" fn hollupaq_owed(a: &PlainAccount) -> i64
-    ensures { λ r. ⌜ r ≡ owedBy (accountBy (now (a .entry))) ⌝ }
+pub extern "C" fn hollupaq_owed(account: &[u64]) -> i64
+    ensures { λ r. ⌜ r ≡ owedIn (now (account .entry)) ⌝ }
 {
-    plain::owed(*a)
+    questions::owed(account)
 }
 
 // The deposit held.
 #[no_mangle]
-pub extern "C" fn hollupaq_held(a: &PlainAccount) -> u64
-    ensures { λ r. ⌜ r ≡ now (a .entry) .held ⌝ }
+pub extern "C" fn hollupaq_held(account: &[u64]) -> u64
+    ensures { λ r. ⌜ r ≡ heldIn (now (account .entry)) ⌝ }
 {
-    plain::held(*a)
+    questions::held(account)
 }
 
 // The deposit required.
 #[no_mangle]
-pub extern "C" fn hollupaq_required(a: &PlainAccount) -> u64
-    ensures { λ r. ⌜ r ≡ now (a .entry) .required ⌝ }
+pub extern "C" fn hollupaq_required(account: &[u64]) -> u64
+    ensures { λ r. ⌜ r ≡ requiredIn (now (account .entry)) ⌝ }
 {
-    plain::required(*a)
+    questions::required(account)
 }
 
 // 0 on, 1 off, 2 closed.
 #[no_mangle]
-pub extern "C" fn hollupaq_service(a: &PlainAccount) -> u32
-    ensures { λ r. ⌜ r ≡ serviceNumber (serviceBy (now (a .entry) .service)) ⌝ }
+pub extern "C" fn hollupaq_service(account: &[u64]) -> u32
+    ensures { λ r. ⌜ r ≡ serviceNumber (serviceIn (now (account .entry))) ⌝ }
 {
-    plain::service(*a)
+    let s = questions::service(account);
+    number_of(s)
 }
 
 // How many items are open.
 #[no_mangle]
-pub extern "C" fn hollupaq_open_count(a: &PlainAccount) -> u64
-    ensures { λ r. ⌜ r ≡ now (a .entry) .count ⌝ }
+pub extern "C" fn hollupaq_open_count(account: &[u64]) -> u64
+    ensures { λ r. ⌜ r ≡ countIn (now (account .entry)) ⌝ }
 {
-    plain::open_count(*a)
+    questions::open_count(account)
 }
 
-// The day and the unpaid part of open item i, from 0 in the order posted; both 0 past the last.
+// The day of open item i, from 0 in the order posted; 0 past the last.
 #[no_mangle]
-pub extern "C" fn hollupaq_open_item_at(a: &PlainAccount, i: usize) -> OpenItem
-    ensures { λ r. ⌜ r ≡ getD (openBy (accountBy (now (a .entry)))) i noItem ⌝ }
+pub extern "C" fn hollupaq_open_day(account: &[u64], i: usize) -> u64
+    ensures { λ r. ⌜ r ≡ getD (openIn (now (account .entry))) i noItem .day ⌝ }
 {
-    plain::open_item(*a, i)
+    let x = questions::open_item(account, i);
+    x.day
+}
+
+// The unpaid part of open item i; 0 past the last.
+#[no_mangle]
+pub extern "C" fn hollupaq_open_unpaid(account: &[u64], i: usize) -> u64
+    ensures { λ r. ⌜ r ≡ getD (openIn (now (account .entry))) i noItem .unpaid ⌝ }
+{
+    let x = questions::open_item(account, i);
+    x.unpaid
 }

@@ -6,7 +6,7 @@ use report::Printed;
 use report::report;
 ghost use mathlib.Core.Path.{_≡_};
 ghost use Rattle.report.specs.Report.{textOf};
-ghost use Rattle.hollupaq.specs.Plain.{Written, bytesOf, Noted};
+ghost use Rattle.hollupaq.specs.Library.{Written, bytesOf, Noted};
 
 // How many bytes were written, 0 where the output was too short.
 fn bytes_of(p: Printed) -> u64

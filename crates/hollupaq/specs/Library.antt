@@ -1,0 +1,69 @@
+-- The answers of the static library: plain numbers, since an enum has no form in C; and demand 3 of an account that a program keeps.
+use Prim.Native.Nat.{ℕ, _+_}
+use mathlib.Core.Path.{_≡_}
+use mathlib.Core.Bool.{cond}
+use mathlib.Core.List.{List, [], map}
+use lib.Dec.{eqb}
+use lib.IntN.{ℤ}
+use lib.ListN.{length}
+use Rattle.rules.specs.declared.Event.{Event}
+use Rattle.rules.specs.declared.Answer.{Answer}
+use Rattle.rules.specs.declared.Answer.the-variants.{Accepted, Refused}
+use Rattle.rules.specs.Accepted.{accepted, answersBy}
+use Rattle.account.specs.State.{accountSize}
+use Rattle.account.specs.Post.{answerTo, wordsAfter}
+use Rattle.account.specs.Many.{answerAtOf, wordsAtAfter}
+use Rattle.claim.specs.Run.{LeftBy}
+use Rattle.claim.specs.Claim.{freshWords, ClaimOf}
+use Rattle.layout.specs.Lent.{after}
+use Rattle.layout.specs.Finding.{accountOf}
+use Rattle.bookpost.specs.History.{numbersOf, owedFrom, historyRefusal}
+use Rattle.report.specs.declared.Printed.{Printed}
+use Rattle.report.specs.declared.Printed.the-variants as printed
+use Rattle.report.specs.Report.{printedAs, printedIn}
+
+-- how many bytes were written; 0 where the output was too short, which no text is
+abbrev pub bytesOf : Printed → ℕ
+bytesOf (printed.Bytes n) = n
+bytesOf (printed.Refused n) = 0
+
+-- what writing a text does: its answer, and every byte of the output
+pub record Written (text old new : List ℕ) (r : ℕ) : Type 0 where
+  pub answer : r ≡ bytesOf (printedAs text old)
+  pub bytes : new ≡ printedIn text old
+
+-- what telling a history does: its answer, and every element of both slices
+pub record Noted (b : List ℕ) (i : ℕ) (ns ns2 : List ℕ) (os os2 : List ℤ) (r : ℕ) : Type 0 where
+  pub answer : r ≡ historyRefusal b i (length ns) (length os)
+  pub numbers : ns2 ≡ after (historyRefusal b i (length ns) (length os)) (numbersOf (accountOf b i)) ns
+  pub owing : os2 ≡ after (historyRefusal b i (length ns) (length os)) (owedFrom [] (accountOf b i)) os
+
+-- ---- an account that the caller keeps
+-- under 256 the number that refuses, 0 where the memory is no account; else 256 and the receipt of a payment, or 256 alone
+abbrev pub answerWord : Answer → ℕ
+answerWord (Accepted n) = 256 + n
+answerWord (Refused n) = n
+
+-- one posting: the memory was m, r is what is answered to e, and k is the memory that is left
+pub record Keeps (m : List ℕ) (e : Event) (r : ℕ) (k : List ℕ) : Type 0 where
+  pub answer-is : r ≡ answerWord (answerTo m e)
+  pub words-are : k ≡ wordsAfter m e
+
+-- the same on account i of many
+pub record KeepsAt (i : ℕ) (all : List ℕ) (e : Event) (r : ℕ) (all2 : List ℕ) : Type 0 where
+  pub answer-is : r ≡ answerWord (answerAtOf i all e)
+  pub words-are : all2 ≡ wordsAtAfter i all e
+
+-- memory for a new account: made where it has as many words as an account
+pub record Begun (m : List ℕ) (r : ℕ) (k : List ℕ) : Type 0 where
+  pub answer-is : r ≡ cond (eqb (length m) accountSize) 1 0
+  pub words-are : k ≡ cond (eqb (length m) accountSize) freshWords m
+
+-- DEMAND 3 of z, the memory after the list es: what was answered are the answers of the events alone, and the claim holds
+pub record KeptClaimOf (z : List ℕ) (said : List ℕ) (es : List Event) : Type 0 where
+  pub answered : said ≡ map answerWord (answersBy es)
+  pub claim : ClaimOf z (answersBy es) es (accepted es)
+
+-- each event is posted in the memory that the posting before left
+abbrev pub KeptClaim : List Event → List ℕ → List ℕ → Type 0
+KeptClaim es said z = LeftBy Keeps freshWords es said z → KeptClaimOf z said es
