@@ -1,6 +1,8 @@
 //! Accounts that the caller keeps and posts to one event at a time: each history of each book, against the peer.
 mod against;
 mod bytes;
+mod lengths;
+mod many;
 mod posting;
 mod told;
 mod turned;
@@ -12,7 +14,8 @@ use crate::tally::{Group, Tally};
 use against::Check;
 use posting::{keep, Asked};
 
-/// In every such book the account is asked for everything after each event, and bits of it are turned.
+/// In every such book the account is asked for everything after each event, bits of it are turned, and the book's accounts
+/// are kept in one memory.
 const SHARE: u64 = 16;
 
 /// What kept accounts showed.
@@ -25,6 +28,8 @@ pub struct Accounts {
     refused: Group,
     alone: Group,
     around: Group,
+    lengths: Group,
+    many: Group,
     turned: Group,
     /// How many accounts with turned bits the core saw to be none of its own, and how many not.
     seen: usize,
@@ -42,6 +47,10 @@ impl Accounts {
                 self.turn(history, &mut random);
             }
         }
+        if often {
+            let list = many::lists(&book.histories);
+            self.many.try_one(|| many::compare(list));
+        }
     }
 
     fn history(&mut self, history: &History, often: bool, good: bool) {
@@ -57,6 +66,7 @@ impl Accounts {
         self.refused.try_one(|| compare(against::refused));
         self.alone.try_one(|| compare(against::accepted_alone));
         self.around.try_one(|| compare(against::around));
+        self.lengths.try_one(|| compare(lengths::refused));
         // A book with an unknown kind has no history.
         if good {
             self.by_value.try_one(|| compare(against::by_value));
@@ -88,6 +98,8 @@ impl Accounts {
             (&self.refused, "as they were after a refused event"),
             (&self.alone, "the same bytes by the accepted events alone"),
             (&self.around, "the memory around them as it was"),
+            (&self.lengths, "in memory of another length refused"),
+            (&self.many, "three in one memory as three apart"),
             (&self.turned, "with bits turned, answered or refused"),
         ];
         for (group, words) in groups {

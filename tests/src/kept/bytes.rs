@@ -1,7 +1,8 @@
 //! The bytes of a kept account.
-use tools::core::{Account, ACCOUNT_WORDS};
+use tools::core::lent::WORDS;
+use tools::core::Account;
 
-pub const BYTES: usize = 8 * ACCOUNT_WORDS;
+pub const BYTES: usize = 8 * WORDS;
 
 pub fn of(account: &Account) -> Vec<u8> {
     let words = account.words().iter();

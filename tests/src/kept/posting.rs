@@ -6,7 +6,7 @@ use tools::core::{Account, Answer};
 use tools::event::Event;
 
 /// What lies before and behind the account.
-const AROUND: [u64; 8] = [0xa55a_c33c_a55a_c33c; 8];
+pub const AROUND: [u64; 8] = [0xa55a_c33c_a55a_c33c; 8];
 
 /// An account in memory of which the core may touch nothing else.
 #[repr(C)]

@@ -16,7 +16,7 @@ pub struct Told {
     required: i64,
     service: Service,
     /// Day and unpaid part of the open items, and of the one past the last.
-    open: Vec<(u32, i64)>,
+    open: Vec<(u64, i64)>,
 }
 
 impl Told {
@@ -35,10 +35,22 @@ impl Told {
         }
     }
 
+    /// What memory tells that is no account.
+    pub fn by_no_account() -> Told {
+        Told {
+            owed: 0,
+            held: 0,
+            required: 0,
+            service: Service::Closed,
+            open: vec![(0, 0)],
+        }
+    }
+
     /// After the first `after` of the accepted events.
     pub fn by_peer(accepted: &[Event], money: &Money, after: usize) -> Told {
         let accepted = &accepted[..after];
-        let mut open = money.open_items_after(after);
+        let items = money.open_items_after(after).into_iter();
+        let mut open: Vec<(u64, i64)> = items.map(|(day, unpaid)| (day.into(), unpaid)).collect();
         open.push((0, 0));
         Told {
             owed: money.owed_after(after),

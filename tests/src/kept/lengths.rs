@@ -1,0 +1,99 @@
+//! Memory that has not the length of an account.
+use super::posting::Kept;
+use crate::peer::kind::PAYMENT;
+use crate::peer::Posted;
+use tools::core::lent::{self, WORDS};
+use tools::event::Event;
+
+/// None, one word too few, one too many.
+const LENGTHS: [usize; 3] = [0, WORDS - 1, WORDS + 1];
+
+/// What memory was left as, and what it answered, as far as numbers go: all of them are 0, but for the service.
+#[derive(Debug, PartialEq)]
+struct Outcome {
+    memory: Vec<u64>,
+    fresh: u8,
+    post: u64,
+    post_at: u64,
+    owed: i64,
+    told: [u64; 5],
+    service: u32,
+}
+
+/// As a call has to end on memory that is no account.
+fn expected(memory: &[u64]) -> Outcome {
+    Outcome {
+        memory: memory.to_vec(),
+        fresh: 0,
+        post: 0,
+        post_at: 0,
+        owed: 0,
+        told: [0; 5],
+        service: 2,
+    }
+}
+
+fn found(memory: &[u64], event: Event) -> Outcome {
+    // The account that is not there, or not whole.
+    let index = memory.len() / WORDS;
+    let mut after = memory.to_vec();
+    Outcome {
+        post: lent::post(&mut after, event),
+        post_at: lent::post_at(&mut after, index, event),
+        fresh: lent::fresh(&mut after),
+        owed: lent::owed(memory),
+        told: [
+            lent::held(memory),
+            lent::required(memory),
+            lent::open_count(memory),
+            lent::open_day(memory, 0),
+            lent::open_unpaid(memory, 0),
+        ],
+        service: lent::service(memory),
+        memory: after,
+    }
+}
+
+/// The account of a history in memory that is too short or too long: it is refused with 0 and left alone.
+pub fn refused(_: &[Event], posted: &Posted, kept: &Kept) -> Option<String> {
+    let mut words = kept.account.words().to_vec();
+    // So that the last word of a longer memory is none that an account could have there.
+    words.push(u64::MAX);
+    // On the account itself it would be accepted.
+    let day = posted.accepted.last().map_or(0, |event| event.day);
+    let payment = Event::of(PAYMENT, day, 1);
+    LENGTHS.iter().find_map(|&length| {
+        let memory = &words[..length];
+        let (expected, found) = (expected(memory), found(memory, payment));
+        (expected != found).then(|| {
+            format!("  as {length} words\n    expected: {expected:?}\n    found: {found:?}\n")
+        })
+    })
+}
+
+#[cfg(test)]
+mod tests {
+    use super::*;
+    use crate::make::bill;
+    use tools::core::Account;
+
+    #[test]
+    fn a_whole_account_is_not_refused() {
+        let mut account = Account::fresh();
+        account.post(bill(7, 6_000));
+        let memory = account.words();
+        let found = found(memory, bill(7, 1));
+        assert_eq!((found.post, found.post_at, found.fresh), (256, 0, 1));
+        assert_eq!((found.owed, found.service), (6_000, 0));
+        assert_eq!(found.told, [0, 0, 1, 7, 6_000]);
+        assert_eq!(found.memory, Account::fresh().words());
+    }
+
+    #[test]
+    fn another_length_is_refused() {
+        for length in LENGTHS {
+            let memory = vec![0; length];
+            assert_eq!(found(&memory, bill(7, 1)), expected(&memory));
+        }
+    }
+}
