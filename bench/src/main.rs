@@ -4,21 +4,23 @@ mod books;
 mod clock;
 mod inplace;
 mod ledgers;
+mod posting;
+mod row;
 
+use row::Times;
 use std::hint::black_box;
 use std::process::ExitCode;
 use tools::event::Event;
 use tools::{book, core};
 
-const GOAL: f64 = 1.5;
+/// What a row may take, in words: at most so many times the rules in place.
+const STANDING_GOAL: &str = "goal 2.00, wished 1.50";
+const FULL_STANDING_GOAL: &str = "goal 1.60";
+const KEPT_GOAL: &str = "goal 4.00";
+const BY_VALUE_GOAL: &str = "goal 15.00";
+
 const MANY: usize = 60;
 const GROWTH_EVENTS: u64 = 16_000;
-
-/// Median times of both, in seconds.
-struct Times {
-    core: f64,
-    in_place: f64,
-}
 
 fn main() -> ExitCode {
     match run() {
@@ -35,12 +37,15 @@ fn run() -> Result<(), String> {
     let full = vec![books::full_house(1, books::most_records(1))];
     let many = many_accounts();
     println!("Standing of a book just under 64 KB: core to the same rules in place");
-    show("one account", &one)?;
-    let times = show("60 accounts", &many)?;
-    show("one account, 64 items open", &full)?;
-    println!("\nPosting one event at a time on a kept account: to the same events of a book, answers and owed");
+    standing("one account", STANDING_GOAL, &one)?;
+    let times = standing("60 accounts", STANDING_GOAL, &many)?;
+    standing("one account, 64 items open", FULL_STANDING_GOAL, &full)?;
+    println!("\nPosting one event at a time on a kept account, owed asked after each: core to the same rules in place");
     kept("one account", &one[0])?;
     kept("one account, 64 items open", &full[0])?;
+    println!("\nPosting by value, the history of a book: core to the same rules in place");
+    by_value("one account", &one[0])?;
+    by_value("one account, 64 items open", &full[0])?;
     println!("\nTime of an event as one account grows, to that of 500 events");
     growth("years of events", books::years)?;
     growth("64 items open", books::full_house)?;
@@ -67,78 +72,34 @@ fn compare(book: &[u8]) -> Result<(), String> {
     }
 }
 
-fn measure(book: &[u8]) -> Result<Times, String> {
-    compare(book)?;
-    let mut out = vec![0; core::report_room(book)];
+fn standing(name: &str, goal: &str, list: &[Vec<Event>]) -> Result<Times, String> {
+    let book = book::encode(list);
+    compare(&book)?;
+    let mut out = vec![0; core::report_room(&book)];
     let mut other = out.clone();
-    let mut tasks: [clock::Task; 2] = [
+    let times = Times::of([
         Box::new(|| {
-            black_box(core::report_into(black_box(book), &mut out));
+            black_box(core::report_into(black_box(&book), &mut out));
         }),
         Box::new(|| {
-            black_box(inplace::report(black_box(book), &mut other));
+            black_box(inplace::report(black_box(&book), &mut other));
         }),
-    ];
-    let times = clock::medians(&mut tasks, clock::SAMPLES);
-    Ok(Times {
-        core: times[0],
-        in_place: times[1],
-    })
-}
-
-fn show(name: &str, list: &[Vec<Event>]) -> Result<Times, String> {
-    let times = measure(&book::encode(list))?;
-    let events: usize = list.iter().map(Vec::len).sum();
-    let each = |time: f64| time * 1e9 / events as f64;
-    let ratio = times.core / times.in_place;
-    println!(
-        "  {name:<28} {ratio:6.2}   goal {GOAL:.2}   (an event {:.1} to {:.1} ns, {events} events)",
-        each(times.core),
-        each(times.in_place),
-    );
+    ]);
+    times.show(name, goal, list.iter().map(Vec::len).sum());
     Ok(times)
 }
 
-/// An account in the caller's memory against the history of a book, which posts by value and tells the same. What is owed
-/// has to be equal at the end before anything is timed.
 fn kept(name: &str, events: &[Event]) -> Result<(), String> {
-    let book = book::encode(&[events.to_vec()]);
-    let (mut numbers, mut owed) = (vec![0; events.len()], vec![0; events.len()]);
-    core::history_into(&book, 0, &mut numbers, &mut owed).map_err(|n| format!("refused {n}"))?;
-    if owed.last() != Some(&post_each(events)) {
-        return Err("a kept account owes something else than by value".to_string());
-    }
-    let mut tasks: [clock::Task; 2] = [
-        Box::new(|| {
-            black_box(post_each(black_box(events)));
-        }),
-        Box::new(|| {
-            black_box(core::history_into(
-                black_box(&book),
-                0,
-                &mut numbers,
-                &mut owed,
-            ))
-            .ok();
-        }),
-    ];
-    let times = clock::medians(&mut tasks, clock::SAMPLES);
-    let each = |time: f64| time * 1e9 / events.len() as f64;
-    let (kept, by_value) = (each(times[0]), each(times[1]));
-    let ratio = kept / by_value;
-    println!("  {name:<28} {ratio:6.2}   (an event {kept:.1} to {by_value:.1} ns)");
+    let times = posting::kept(events)?;
+    times.show(name, KEPT_GOAL, events.len());
     Ok(())
 }
 
-/// What is owed after the events, asked after each.
-fn post_each(events: &[Event]) -> i64 {
-    let mut account = core::Account::fresh();
-    let mut owed = 0;
-    for &event in events {
-        black_box(account.post(event));
-        owed = account.owed();
-    }
-    owed
+fn by_value(name: &str, events: &[Event]) -> Result<(), String> {
+    let book = book::encode(&[events.to_vec()]);
+    let times = posting::by_value(&book, events.len())?;
+    times.show(name, BY_VALUE_GOAL, events.len());
+    Ok(())
 }
 
 /// Each size is measured on the same number of events, in as many books of one account as that takes: the processor
