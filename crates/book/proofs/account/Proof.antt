@@ -13,9 +13,6 @@ use Rattle.book.proofs.account.Tie as tie
 some : (c : tie.Else1) → (base (accounts (c .before .before .before .args .b .now)) ≤ length (c .before .before .before .args .b .now)) × (c .before .before .before .args .i < accounts (c .before .before .before .args .b .now))
 some c = entries-some (c .before .before .before .args .b .now) (c .before .before .before .args .i) (omega arith)
 
-entries-requires : tie.Need-entries-requires
-entries-requires c κs = search needs
-
 returns : tie.Need-returns
 returns c =
     let s = c .before .before .before .args in
@@ -45,15 +42,6 @@ add-get-3 c = omega (arith, some (c .before .before))
 get-requires-3 : tie.Need-get-requires-3
 get-requires-3 c κs = omega (arith, some (c .before .before))
 
-mul-less : tie.Need-mul-less
-mul-less c = search needs
-
-add-less : tie.Need-add-less
-add-less c = search needs
-
-less-requires : tie.Need-less-requires
-less-requires c κs = search needs
-
 returns-2 : tie.Need-returns-2
 returns-2 c =
     let s = c .before .before .before .before .before .before .before .args in
@@ -62,18 +50,5 @@ returns-2 c =
 pub account-spec : {M : Type 1} → statement M
 account-spec =
     tie.close
-    (tie.spec
-    entries-requires
-    returns
-    get-requires
-    mul-get
-    add-get
-    get-requires-2
-    mul-get-2
-    add-get-2
-    add-get-3
-    get-requires-3
-    mul-less
-    add-less
-    less-requires
-    returns-2)
+    (tie.spec (λ c κs. search needs) returns get-requires mul-get add-get get-requires-2 mul-get-2 add-get-2 add-get-3
+    get-requires-3 (λ c. search needs) (λ c. search needs) (λ c κs. search needs) returns-2)

@@ -12,9 +12,6 @@ use Rattle.book.proofs.book_refusal.Tie as tie
 fine : (c : tie.Else1) → Header (c .before .before .before .args .b .now)
 fine c = header-facts _ (sym (c .before .header-fine .ensures) ∙ not-false _ (c .if1 .left))
 
-header-fine-requires : tie.Need-header-fine-requires
-header-fine-requires c κs = search needs
-
 returns : tie.Need-returns
 returns c = simp (sym (c .before .header-fine .ensures) ∙ not-true _ (c .if1 .taken))
 
@@ -54,13 +51,5 @@ returns-3 c =
 pub book-refusal-spec : {M : Type 1} → statement M
 book-refusal-spec =
     tie.close
-    (tie.spec
-    header-fine-requires
-    returns
-    get-requires
-    get-requires-2
-    mul-records-fine
-    add-records-fine
-    records-fine-requires
-    returns-2
-    returns-3)
+    (tie.spec (λ c κs. search needs) returns get-requires get-requires-2 mul-records-fine add-records-fine
+    records-fine-requires returns-2 returns-3)

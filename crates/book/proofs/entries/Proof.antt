@@ -11,15 +11,6 @@ returns c =
     let b = c .before .before .args .b .now in
     simp (lt-leb (base (accounts b)) (length b) (omega arith))
 
-get-requires : tie.Need-get-requires
-get-requires c κs = search needs
-
-mul-if2 : tie.Need-mul-if2
-mul-if2 c = search needs
-
-add-if2 : tie.Need-add-if2
-add-if2 c = search needs
-
 returns-2 : tie.Need-returns-2
 returns-2 c =
     let b = c .before .before .before .before .args .b .now in
@@ -31,4 +22,6 @@ returns-3 c =
     simp (le-leb (base (accounts b)) (length b) (omega arith)) (c .before .get .ensures .0)
 
 pub entries-spec : {M : Type 1} → statement M
-entries-spec = tie.close (tie.spec returns get-requires mul-if2 add-if2 returns-2 returns-3)
+entries-spec =
+    tie.close
+    (tie.spec returns (λ c κs. search needs) (λ c. search needs) (λ c. search needs) returns-2 returns-3)

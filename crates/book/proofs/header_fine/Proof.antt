@@ -13,22 +13,10 @@ returns c = simp (lt-leb _ _ (c .if1 .taken))
 returns-2 : tie.Need-returns-2
 returns-2 c = simp (le-leb _ _ (c .before .if1 .left), lt-leb _ _ (c .if2 .taken))
 
-get-requires : tie.Need-get-requires
-get-requires c κs = search needs
-
-get-requires-2 : tie.Need-get-requires-2
-get-requires-2 c κs = search needs
-
 returns-3 : tie.Need-returns-3
 returns-3 c =
     let b = c .before .before .before .before .before .before .args .b .now in
     simp (le-leb 8 (length b) (omega arith), le-leb (length b) 4294967295 (omega arith), lt-leb (accounts b) 1024 (omega arith))
-
-mul-if4 : tie.Need-mul-if4
-mul-if4 c = search needs
-
-add-if4 : tie.Need-add-if4
-add-if4 c = search needs
 
 mul-if4-2 : tie.Need-mul-if4-2
 mul-if4-2 c = record { fits = omega arith }
@@ -46,9 +34,6 @@ returns-4 c =
       ne-eqb (length b) (base (accounts b) + 16 * records b) (omega arith),
     )
 
-table-fine-requires : tie.Need-table-fine-requires
-table-fine-requires c κs = search needs
-
 returns-5 : tie.Need-returns-5
 returns-5 c =
     let b = c .before .before .before .before .before .before .before .before .args .b .now in
@@ -62,16 +47,5 @@ returns-5 c =
 pub header-fine-spec : {M : Type 1} → statement M
 header-fine-spec =
     tie.close
-    (tie.spec
-    returns
-    returns-2
-    get-requires
-    get-requires-2
-    returns-3
-    mul-if4
-    add-if4
-    mul-if4-2
-    add-if4-2
-    returns-4
-    table-fine-requires
-    returns-5)
+    (tie.spec returns returns-2 (λ c κs. search needs) (λ c κs. search needs) returns-3 (λ c. search needs)
+    (λ c. search needs) mul-if4-2 add-if4-2 returns-4 (λ c κs. search needs) returns-5)

@@ -9,31 +9,10 @@ use Rattle.layout.proofs.Found.{record-told}
 use Rattle.book.proofs.record.Statement.{statement}
 use Rattle.book.proofs.record.Tie as tie
 
-room-requires : tie.Need-room-requires
-room-requires c κs = search needs
-
 returns : tie.Need-returns
 returns c =
     let s = c .before .before .before .args in
     record-told (s .b .now) (s .k) _ (rw (le-ltb (s .k) (room (s .b .now)) (omega arith)))
-
-get-requires : tie.Need-get-requires
-get-requires c κs = search needs
-
-mul-event-at : tie.Need-mul-event-at
-mul-event-at c = search needs
-
-add-event-at : tie.Need-add-event-at
-add-event-at c = search needs
-
-mul-event-at-2 : tie.Need-mul-event-at-2
-mul-event-at-2 c = search needs
-
-add-event-at-2 : tie.Need-add-event-at-2
-add-event-at-2 c = search needs
-
-event-at-requires : tie.Need-event-at-requires
-event-at-requires c κs = search needs
 
 returns-2 : tie.Need-returns-2
 returns-2 c =
@@ -45,13 +24,5 @@ returns-2 c =
 pub record-spec : {M : Type 1} → statement M
 record-spec =
     tie.close
-    (tie.spec
-    room-requires
-    returns
-    get-requires
-    mul-event-at
-    add-event-at
-    mul-event-at-2
-    add-event-at-2
-    event-at-requires
-    returns-2)
+    (tie.spec (λ c κs. search needs) returns (λ c κs. search needs) (λ c. search needs) (λ c. search needs)
+    (λ c. search needs) (λ c. search needs) (λ c κs. search needs) returns-2)

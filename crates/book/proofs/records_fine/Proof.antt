@@ -14,27 +14,12 @@ Inv-loop b p n left₀ at₀ left at = (recordsFine left at b ≡ recordsFine n 
 abbrev μ-loop : tie.MeasureT-loop
 μ-loop b p n left₀ at₀ left at = left
 
-loop-holds : tie.Need-loop-holds Inv-loop μ-loop
-loop-holds c = search needs
-
-record-fine-requires : tie.Need-record-fine-requires Inv-loop μ-loop
-record-fine-requires c κs = search needs
-
 returns : tie.Need-returns Inv-loop μ-loop
 returns c =
     let l = c .before .before .before .loop in
     let e : l .left ≡ suc (l .left - 1) = omega arith in
     let t = sym (c .before .record-fine .ensures) ∙ not-true _ (c .if1 .taken) in
     sym (and-off _ _ t) ∙ (rw e at (l .inv .0))
-
-add-at : tie.Need-add-at Inv-loop μ-loop
-add-at c = search needs
-
-sub-left : tie.Need-sub-left Inv-loop μ-loop
-sub-left c = search needs
-
-loop-less : tie.Need-loop-less Inv-loop μ-loop
-loop-less c = search needs
 
 loop-again : tie.Need-loop-again Inv-loop μ-loop
 loop-again c =
@@ -51,14 +36,5 @@ returns-2 c =
 pub records-fine-spec : {M : Type 1} → statement M
 records-fine-spec =
     tie.close
-    (tie.spec
-    Inv-loop
-    μ-loop
-    loop-holds
-    record-fine-requires
-    returns
-    add-at
-    sub-left
-    loop-less
-    loop-again
-    returns-2)
+    (tie.spec Inv-loop μ-loop (λ c. search needs) (λ c κs. search needs) returns (λ c. search needs) (λ c. search needs)
+    (λ c. search needs) loop-again returns-2)

@@ -12,9 +12,6 @@ use Rattle.book.proofs.test.Tie as tie
 fine : (c : tie.Else1) → Header (c .before .before .before .args .b .now)
 fine c = book-facts _ (sym (c .before .book-refusal .ensures) ∙ c .if1 .left) .0
 
-book-refusal-requires : tie.Need-book-refusal-requires
-book-refusal-requires c κs = search needs
-
 returns : tie.Need-returns
 returns c =
     let e = c .before .book-refusal .ensures in
@@ -35,4 +32,5 @@ returns-2 c =
 
 pub test-spec : {M : Type 1} → statement M
 test-spec =
-    tie.close (tie.spec book-refusal-requires returns get-requires get-requires-2 returns-2)
+    tie.close
+    (tie.spec (λ c κs. search needs) returns get-requires get-requires-2 returns-2)

@@ -11,9 +11,6 @@ use Rattle.bookread.proofs.read_refusal.Tie as tie
 fine : (c : tie.Else1) → Header (c .before .before .before .args .b .now)
 fine c = book-facts _ (sym (c .before .book-refusal .ensures) ∙ c .if1 .left) .0
 
-book-refusal-requires : tie.Need-book-refusal-requires
-book-refusal-requires c κs = search needs
-
 returns : tie.Need-returns
 returns c =
     let e = c .before .book-refusal .ensures in
@@ -42,4 +39,4 @@ returns-3 c =
 pub read-refusal-spec : {M : Type 1} → statement M
 read-refusal-spec =
     tie.close
-    (tie.spec book-refusal-requires returns get-requires get-requires-2 returns-2 returns-3)
+    (tie.spec (λ c κs. search needs) returns get-requires get-requires-2 returns-2 returns-3)

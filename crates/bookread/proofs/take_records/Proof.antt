@@ -21,42 +21,6 @@ Inv-loop b p n kinds₀ options₀ days₀ amounts₀ left₀ at₀ i₀ kinds o
 abbrev μ-loop : tie.MeasureT-loop
 μ-loop b p n kinds₀ options₀ days₀ amounts₀ left₀ at₀ i₀ kinds options days amounts left at i = left
 
-loop-holds : tie.Need-loop-holds Inv-loop μ-loop
-loop-holds c = search needs
-
-event-at-requires : tie.Need-event-at-requires Inv-loop μ-loop
-event-at-requires c κs = search needs
-
-slice-write-kinds : tie.Need-slice-write-kinds Inv-loop μ-loop
-slice-write-kinds c = search needs
-
-slice-write-options : tie.Need-slice-write-options Inv-loop μ-loop
-slice-write-options c = search needs
-
-mul-days : tie.Need-mul-days Inv-loop μ-loop
-mul-days c = search needs
-
-slice-write-days : tie.Need-slice-write-days Inv-loop μ-loop
-slice-write-days c = search needs
-
-mul-amounts : tie.Need-mul-amounts Inv-loop μ-loop
-mul-amounts c = search needs
-
-slice-write-amounts : tie.Need-slice-write-amounts Inv-loop μ-loop
-slice-write-amounts c = search needs
-
-add-at : tie.Need-add-at Inv-loop μ-loop
-add-at c = search needs
-
-add-i : tie.Need-add-i Inv-loop μ-loop
-add-i c = search needs
-
-sub-left : tie.Need-sub-left Inv-loop μ-loop
-sub-left c = search needs
-
-loop-less : tie.Need-loop-less Inv-loop μ-loop
-loop-less c = search needs
-
 loop-again : tie.Need-loop-again Inv-loop μ-loop
 loop-again c =
     let l = c .before .before .loop in
@@ -74,18 +38,6 @@ loop-again c =
       search needs,
     )
 
-same-length : tie.Need-same-length Inv-loop μ-loop
-same-length c = search needs
-
-same-length-2 : tie.Need-same-length-2 Inv-loop μ-loop
-same-length-2 c = search needs
-
-same-length-3 : tie.Need-same-length-3 Inv-loop μ-loop
-same-length-3 c = search needs
-
-same-length-4 : tie.Need-same-length-4 Inv-loop μ-loop
-same-length-4 c = search needs
-
 returns : tie.Need-returns Inv-loop μ-loop
 returns c =
     let l = c .before .loop in
@@ -95,24 +47,7 @@ returns c =
 pub take-records-spec : {M : Type 1} → statement M
 take-records-spec =
     tie.close
-    (tie.spec
-    Inv-loop
-    μ-loop
-    loop-holds
-    event-at-requires
-    slice-write-kinds
-    slice-write-options
-    mul-days
-    slice-write-days
-    mul-amounts
-    slice-write-amounts
-    add-at
-    add-i
-    sub-left
-    loop-less
-    loop-again
-    same-length
-    same-length-2
-    same-length-3
-    same-length-4
-    returns)
+    (tie.spec Inv-loop μ-loop (λ c. search needs) (λ c κs. search needs) (λ c. search needs) (λ c. search needs)
+    (λ c. search needs) (λ c. search needs) (λ c. search needs) (λ c. search needs) (λ c. search needs)
+    (λ c. search needs) (λ c. search needs) (λ c. search needs) loop-again (λ c. search needs) (λ c. search needs)
+    (λ c. search needs) (λ c. search needs) returns)

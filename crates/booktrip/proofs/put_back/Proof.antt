@@ -19,24 +19,8 @@ slice-aggregate-write-4 c = simp length-take (omega arith)
 slice-aggregate-write-5 : tie.Need-slice-aggregate-write-5
 slice-aggregate-write-5 c = simp length-take (omega arith)
 
-write-requires : tie.Need-write-requires
-write-requires c κs = search needs
-
-same-length : tie.Need-same-length
-same-length c = search needs
-
-returns : tie.Need-returns
-returns c = search needs
-
 pub put-back-spec : {M : Type 1} → statement M
 put-back-spec =
     tie.close
-    (tie.spec
-    slice-aggregate-write
-    slice-aggregate-write-2
-    slice-aggregate-write-3
-    slice-aggregate-write-4
-    slice-aggregate-write-5
-    write-requires
-    same-length
-    returns)
+    (tie.spec slice-aggregate-write slice-aggregate-write-2 slice-aggregate-write-3 slice-aggregate-write-4
+    slice-aggregate-write-5 (λ c κs. search needs) (λ c. search needs) (λ c. search needs))

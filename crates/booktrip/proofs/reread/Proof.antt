@@ -22,9 +22,6 @@ zero-of c = sym (c .before .reread-refusal .ensures) ∙ c .if1 .left
 told : (c : tie.Else1) → Forth (start c .args .counts .now) (start c .args .kinds .now) (start c .args .options .now) (start c .args .days .now) (start c .args .amounts .now) (length (start c .args .out .now)) (length (start c .args .counts2 .now)) (length (start c .args .kinds2 .now)) (length (start c .args .options2 .now)) (length (start c .args .days2 .now)) (length (start c .args .amounts2 .now))
 told c = forth _ _ _ _ _ _ _ _ _ _ _ (zero-of c)
 
-reread-refusal-requires : tie.Need-reread-refusal-requires
-reread-refusal-requires c κs = search needs
-
 returns : tie.Need-returns
 returns c =
     let e = c .before .reread-refusal .ensures in
@@ -39,12 +36,6 @@ returns c =
       amounts = unchanged _ _ _ z;
     }
 
-write-requires : tie.Need-write-requires
-write-requires c κs = search needs
-
-mul-long : tie.Need-mul-long
-mul-long c = search needs
-
 add-long : tie.Need-add-long
 add-long c = omega (arith, told (c .before .before .before .before) .written .sizes)
 
@@ -56,24 +47,6 @@ add-long-2 c = omega (arith, told (c .before .before .before .before) .written .
 
 take-back-requires : tie.Need-take-back-requires
 take-back-requires c κs = omega (arith, told (c .before .before .before .before .before .before .before .before .before .before) .written)
-
-same-length : tie.Need-same-length
-same-length c = search needs
-
-same-length-2 : tie.Need-same-length-2
-same-length-2 c = search needs
-
-same-length-3 : tie.Need-same-length-3
-same-length-3 c = search needs
-
-same-length-4 : tie.Need-same-length-4
-same-length-4 c = search needs
-
-same-length-5 : tie.Need-same-length-5
-same-length-5 c = search needs
-
-same-length-6 : tie.Need-same-length-6
-same-length-6 c = search needs
 
 returns-2 : tie.Need-returns-2
 returns-2 c =
@@ -98,19 +71,6 @@ returns-2 c =
 pub reread-spec : {M : Type 1} → statement M
 reread-spec =
     tie.close
-    (tie.spec
-    reread-refusal-requires
-    returns
-    write-requires
-    mul-long
-    add-long
-    mul-long-2
-    add-long-2
-    take-back-requires
-    same-length
-    same-length-2
-    same-length-3
-    same-length-4
-    same-length-5
-    same-length-6
-    returns-2)
+    (tie.spec (λ c κs. search needs) returns (λ c κs. search needs) (λ c. search needs) add-long mul-long-2 add-long-2
+    take-back-requires (λ c. search needs) (λ c. search needs) (λ c. search needs) (λ c. search needs)
+    (λ c. search needs) (λ c. search needs) returns-2)

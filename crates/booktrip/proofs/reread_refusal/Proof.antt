@@ -6,9 +6,6 @@ use borrow.Author.Needs.{needs}
 use Rattle.booktrip.proofs.reread_refusal.Statement.{statement}
 use Rattle.booktrip.proofs.reread_refusal.Tie as tie
 
-write-refusal-requires : tie.Need-write-refusal-requires
-write-refusal-requires c κs = search needs
-
 returns : tie.Need-returns
 returns c =
     let e = c .before .write-refusal .ensures in
@@ -27,4 +24,6 @@ returns-3 c =
     reread-as (s .counts .now) (s .kinds .now) (s .options .now) (s .days .now) (s .amounts .now) (s .room) (s .lc) (s .lk) (s .lo) (s .ld) (s .lm) false z (sym (c .if2 .left))
 
 pub reread-refusal-spec : {M : Type 1} → statement M
-reread-refusal-spec = tie.close (tie.spec write-refusal-requires returns returns-2 returns-3)
+reread-refusal-spec =
+    tie.close
+    (tie.spec (λ c κs. search needs) returns returns-2 returns-3)

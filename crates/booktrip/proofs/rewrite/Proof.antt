@@ -29,9 +29,6 @@ fits c = rewrite-facts _ _ _ _ _ _ _ (zero-of c)
 abbrev tested : tie.After-slice-known11 → tie.Else1
 tested c = c .before .before .before .before .before .before .before .before .before .before .before .before .before .before .before .before
 
-rewrite-refusal-requires : tie.Need-rewrite-refusal-requires
-rewrite-refusal-requires c κs = search needs
-
 returns : tie.Need-returns
 returns c =
     let s = c .before .before .before .before .before .before .before .before .before .args in
@@ -43,9 +40,6 @@ returns c =
       bytes = unchanged _ _ _ z;
     }
 
-read-requires : tie.Need-read-requires
-read-requires c κs = search needs
-
 get-requires : tie.Need-get-requires
 get-requires c κs = omega (arith, fits (tested c) .0 .header)
 
@@ -56,24 +50,6 @@ put-back-requires : tie.Need-put-back-requires
 put-back-requires c κs =
     let f = fits (tested (c .before .before .before .before .before .before .before .before)) .0 in
     (omega (arith, f .counts), omega (arith, f .kinds), omega (arith, f .options), omega (arith, f .days), omega (arith, f .amounts))
-
-same-length : tie.Need-same-length
-same-length c = search needs
-
-same-length-2 : tie.Need-same-length-2
-same-length-2 c = search needs
-
-same-length-3 : tie.Need-same-length-3
-same-length-3 c = search needs
-
-same-length-4 : tie.Need-same-length-4
-same-length-4 c = search needs
-
-same-length-5 : tie.Need-same-length-5
-same-length-5 c = search needs
-
-same-length-6 : tie.Need-same-length-6
-same-length-6 c = search needs
 
 returns-2 : tie.Need-returns-2
 returns-2 c =
@@ -90,17 +66,6 @@ returns-2 c =
 pub rewrite-spec : {M : Type 1} → statement M
 rewrite-spec =
     tie.close
-    (tie.spec
-    rewrite-refusal-requires
-    returns
-    read-requires
-    get-requires
-    get-requires-2
-    put-back-requires
-    same-length
-    same-length-2
-    same-length-3
-    same-length-4
-    same-length-5
-    same-length-6
-    returns-2)
+    (tie.spec (λ c κs. search needs) returns (λ c κs. search needs) get-requires get-requires-2 put-back-requires
+    (λ c. search needs) (λ c. search needs) (λ c. search needs) (λ c. search needs) (λ c. search needs)
+    (λ c. search needs) returns-2)

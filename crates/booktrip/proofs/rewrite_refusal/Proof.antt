@@ -9,9 +9,6 @@ use Rattle.booktrip.proofs.Back.{rewrite-as}
 use Rattle.booktrip.proofs.rewrite_refusal.Statement.{statement}
 use Rattle.booktrip.proofs.rewrite_refusal.Tie as tie
 
-read-refusal-requires : tie.Need-read-refusal-requires
-read-refusal-requires c κs = search needs
-
 returns : tie.Need-returns
 returns c =
     let e = c .before .read-refusal .ensures in
@@ -30,4 +27,6 @@ returns-3 c =
     rewrite-as (s .b .now) (s .lc) (s .lk) (s .lo) (s .ld) (s .lm) (s .room) false z (lt-leb (length (s .b .now)) (s .room) (omega arith))
 
 pub rewrite-refusal-spec : {M : Type 1} → statement M
-rewrite-refusal-spec = tie.close (tie.spec read-refusal-requires returns returns-2 returns-3)
+rewrite-refusal-spec =
+    tie.close
+    (tie.spec (λ c κs. search needs) returns returns-2 returns-3)

@@ -15,30 +15,12 @@ Inv-loop kinds left₀ i₀ left i = (kindsFine left i kinds ≡ kindsFine (leng
 abbrev μ-loop : tie.MeasureT-loop
 μ-loop kinds left₀ i₀ left i = left
 
-loop-holds : tie.Need-loop-holds Inv-loop μ-loop
-loop-holds c = search needs
-
-shared-slice-read-kind-fine : tie.Need-shared-slice-read-kind-fine Inv-loop μ-loop
-shared-slice-read-kind-fine c = search needs
-
-kind-fine-requires : tie.Need-kind-fine-requires Inv-loop μ-loop
-kind-fine-requires c κs = search needs
-
 returns : tie.Need-returns Inv-loop μ-loop
 returns c =
     let l = c .before .before .before .before .loop in
     let e : l .left ≡ suc (l .left - 1) = omega arith in
     let t = sym (c .before .kind-fine .ensures) ∙ not-true _ (c .if1 .taken) in
     sym (and-off _ _ t) ∙ (rw e at (l .inv .0))
-
-add-i : tie.Need-add-i Inv-loop μ-loop
-add-i c = search needs
-
-sub-left : tie.Need-sub-left Inv-loop μ-loop
-sub-left c = search needs
-
-loop-less : tie.Need-loop-less Inv-loop μ-loop
-loop-less c = search needs
 
 loop-again : tie.Need-loop-again Inv-loop μ-loop
 loop-again c =
@@ -55,15 +37,5 @@ returns-2 c =
 pub kinds-fine-spec : {M : Type 1} → statement M
 kinds-fine-spec =
     tie.close
-    (tie.spec
-    Inv-loop
-    μ-loop
-    loop-holds
-    shared-slice-read-kind-fine
-    kind-fine-requires
-    returns
-    add-i
-    sub-left
-    loop-less
-    loop-again
-    returns-2)
+    (tie.spec Inv-loop μ-loop (λ c. search needs) (λ c. search needs) (λ c κs. search needs) returns (λ c. search needs)
+    (λ c. search needs) (λ c. search needs) loop-again returns-2)

@@ -14,24 +14,6 @@ use borrow.Author.Needs.{needs}
 use Rattle.bookwrite.proofs.put_book.Statement.{statement}
 use Rattle.bookwrite.proofs.put_book.Tie as tie
 
-put-entry-requires : tie.Need-put-entry-requires
-put-entry-requires c κs = search needs
-
-put-table-requires : tie.Need-put-table-requires
-put-table-requires c κs = search needs
-
-mul-put-records : tie.Need-mul-put-records
-mul-put-records c = search needs
-
-add-put-records : tie.Need-add-put-records
-add-put-records c = search needs
-
-put-records-requires : tie.Need-put-records-requires
-put-records-requires c κs = search needs
-
-same-length : tie.Need-same-length
-same-length c = search needs
-
 returns : tie.Need-returns
 returns c =
     let s = c .before .before .before .before .before .before .before .before .before .before .before .before .before .before .before .before .before .before .args in
@@ -53,11 +35,5 @@ returns c =
 pub put-book-spec : {M : Type 1} → statement M
 put-book-spec =
     tie.close
-    (tie.spec
-    put-entry-requires
-    put-table-requires
-    mul-put-records
-    add-put-records
-    put-records-requires
-    same-length
-    returns)
+    (tie.spec (λ c κs. search needs) (λ c κs. search needs) (λ c. search needs) (λ c. search needs)
+    (λ c κs. search needs) (λ c. search needs) returns)

@@ -10,27 +10,6 @@ use Rattle.little.proofs.Stores.{sets-then}
 use Rattle.bookwrite.proofs.put_record.Statement.{statement}
 use Rattle.bookwrite.proofs.put_record.Tie as tie
 
-put-marks-requires : tie.Need-put-marks-requires
-put-marks-requires c κs = search needs
-
-add-put : tie.Need-add-put
-add-put c = search needs
-
-wide32-requires : tie.Need-wide32-requires
-wide32-requires c κs = search needs
-
-put-requires : tie.Need-put-requires
-put-requires c κs = search needs
-
-add-put-2 : tie.Need-add-put-2
-add-put-2 c = search needs
-
-put-requires-2 : tie.Need-put-requires-2
-put-requires-2 c κs = search needs
-
-same-length : tie.Need-same-length
-same-length c = search needs
-
 returns : tie.Need-returns
 returns c =
     let s = c .before .before .before .before .before .before .before .before .before .before .before .before .before .before .args in
@@ -45,12 +24,5 @@ returns c =
 pub put-record-spec : {M : Type 1} → statement M
 put-record-spec =
     tie.close
-    (tie.spec
-    put-marks-requires
-    add-put
-    wide32-requires
-    put-requires
-    add-put-2
-    put-requires-2
-    same-length
-    returns)
+    (tie.spec (λ c κs. search needs) (λ c. search needs) (λ c κs. search needs) (λ c κs. search needs)
+    (λ c. search needs) (λ c κs. search needs) (λ c. search needs) returns)

@@ -17,42 +17,6 @@ Inv-loop kinds options days amounts out₀ p left₀ at₀ i₀ out left at i = 
 abbrev μ-loop : tie.MeasureT-loop
 μ-loop kinds options days amounts out₀ p left₀ at₀ i₀ out left at i = left
 
-loop-holds : tie.Need-loop-holds Inv-loop μ-loop
-loop-holds c = search needs
-
-shared-slice-read-t13 : tie.Need-shared-slice-read-t13 Inv-loop μ-loop
-shared-slice-read-t13 c = search needs
-
-shared-slice-read-t15 : tie.Need-shared-slice-read-t15 Inv-loop μ-loop
-shared-slice-read-t15 c = search needs
-
-mul-t16 : tie.Need-mul-t16 Inv-loop μ-loop
-mul-t16 c = search needs
-
-shared-slice-read-t18 : tie.Need-shared-slice-read-t18 Inv-loop μ-loop
-shared-slice-read-t18 c = search needs
-
-mul-t19 : tie.Need-mul-t19 Inv-loop μ-loop
-mul-t19 c = search needs
-
-shared-slice-read-t21 : tie.Need-shared-slice-read-t21 Inv-loop μ-loop
-shared-slice-read-t21 c = search needs
-
-put-record-requires : tie.Need-put-record-requires Inv-loop μ-loop
-put-record-requires c κs = search needs
-
-add-at : tie.Need-add-at Inv-loop μ-loop
-add-at c = search needs
-
-add-i : tie.Need-add-i Inv-loop μ-loop
-add-i c = search needs
-
-sub-left : tie.Need-sub-left Inv-loop μ-loop
-sub-left c = search needs
-
-loop-less : tie.Need-loop-less Inv-loop μ-loop
-loop-less c = search needs
-
 loop-again : tie.Need-loop-again Inv-loop μ-loop
 loop-again c =
     let l = c .before .before .before .before .before .before .before .before .before .loop in
@@ -68,9 +32,6 @@ loop-again c =
       search needs,
     )
 
-same-length : tie.Need-same-length Inv-loop μ-loop
-same-length c = search needs
-
 returns : tie.Need-returns Inv-loop μ-loop
 returns c =
     let e : c .before .loop .left ≡ 0 = omega arith in
@@ -79,21 +40,6 @@ returns c =
 pub put-records-spec : {M : Type 1} → statement M
 put-records-spec =
     tie.close
-    (tie.spec
-    Inv-loop
-    μ-loop
-    loop-holds
-    shared-slice-read-t13
-    shared-slice-read-t15
-    mul-t16
-    shared-slice-read-t18
-    mul-t19
-    shared-slice-read-t21
-    put-record-requires
-    add-at
-    add-i
-    sub-left
-    loop-less
-    loop-again
-    same-length
-    returns)
+    (tie.spec Inv-loop μ-loop (λ c. search needs) (λ c. search needs) (λ c. search needs) (λ c. search needs)
+    (λ c. search needs) (λ c. search needs) (λ c. search needs) (λ c κs. search needs) (λ c. search needs)
+    (λ c. search needs) (λ c. search needs) (λ c. search needs) loop-again (λ c. search needs) returns)

@@ -19,42 +19,6 @@ Inv-loop counts out₀ first₀ at₀ i₀ out first at i = (sets out at (table 
 abbrev μ-loop : tie.MeasureT-loop
 μ-loop counts out₀ first₀ at₀ i₀ out first at i = length counts - i
 
-mul-first : tie.Need-mul-first Inv-loop μ-loop
-mul-first c = search needs
-
-add-first : tie.Need-add-first Inv-loop μ-loop
-add-first c = search needs
-
-loop-holds : tie.Need-loop-holds Inv-loop μ-loop
-loop-holds c = search needs
-
-mul-wide32 : tie.Need-mul-wide32 Inv-loop μ-loop
-mul-wide32 c = search needs
-
-shared-slice-read-wide32 : tie.Need-shared-slice-read-wide32 Inv-loop μ-loop
-shared-slice-read-wide32 c = search needs
-
-wide32-requires : tie.Need-wide32-requires Inv-loop μ-loop
-wide32-requires c κs = search needs
-
-put-entry-requires : tie.Need-put-entry-requires Inv-loop μ-loop
-put-entry-requires c κs = search needs
-
-mul-first-2 : tie.Need-mul-first-2 Inv-loop μ-loop
-mul-first-2 c = search needs
-
-add-first-2 : tie.Need-add-first-2 Inv-loop μ-loop
-add-first-2 c = search needs
-
-add-at : tie.Need-add-at Inv-loop μ-loop
-add-at c = search needs
-
-add-i : tie.Need-add-i Inv-loop μ-loop
-add-i c = search needs
-
-loop-less : tie.Need-loop-less Inv-loop μ-loop
-loop-less c = search needs
-
 loop-again : tie.Need-loop-again Inv-loop μ-loop
 loop-again c =
     let l = c .before .before .before .before .before .before .before .loop in
@@ -74,9 +38,6 @@ loop-again c =
       search needs,
     )
 
-same-length : tie.Need-same-length Inv-loop μ-loop
-same-length c = search needs
-
 returns : tie.Need-returns Inv-loop μ-loop
 returns c =
     let z = drop-of-length-le (c .before .before .before .before .args .counts .now) {i = c .before .loop .i} (omega arith) in
@@ -85,21 +46,6 @@ returns c =
 pub put-table-spec : {M : Type 1} → statement M
 put-table-spec =
     tie.close
-    (tie.spec
-    Inv-loop
-    μ-loop
-    mul-first
-    add-first
-    loop-holds
-    mul-wide32
-    shared-slice-read-wide32
-    wide32-requires
-    put-entry-requires
-    mul-first-2
-    add-first-2
-    add-at
-    add-i
-    loop-less
-    loop-again
-    same-length
-    returns)
+    (tie.spec Inv-loop μ-loop (λ c. search needs) (λ c. search needs) (λ c. search needs) (λ c. search needs)
+    (λ c. search needs) (λ c κs. search needs) (λ c κs. search needs) (λ c. search needs) (λ c. search needs)
+    (λ c. search needs) (λ c. search needs) (λ c. search needs) loop-again (λ c. search needs) returns)

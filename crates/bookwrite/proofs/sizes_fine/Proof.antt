@@ -18,26 +18,11 @@ returns-2 c =
     let n = length (s .counts .now) in
     simp (le-leb n 1024 (omega arith), lt-leb (base n + 16 * length (s .kinds .now)) 4294967295 (omega arith))
 
-mul-if3 : tie.Need-mul-if3
-mul-if3 c = search needs
-
-add-if3 : tie.Need-add-if3
-add-if3 c = search needs
-
-mul-if3-2 : tie.Need-mul-if3-2
-mul-if3-2 c = search needs
-
-add-if3-2 : tie.Need-add-if3-2
-add-if3-2 c = search needs
-
 returns-3 : tie.Need-returns-3
 returns-3 c =
     let s = c .before .before .before .before .before .before .before .before .args in
     let n = length (s .counts .now) in
     simp (le-leb n 1024 (omega arith), lt-leb (base n + 16 * length (s .kinds .now)) 4294967295 (omega arith))
-
-sum-requires : tie.Need-sum-requires
-sum-requires c κs = search needs
 
 returns-4 : tie.Need-returns-4
 returns-4 c =
@@ -48,13 +33,5 @@ returns-4 c =
 pub sizes-fine-spec : {M : Type 1} → statement M
 sizes-fine-spec =
     tie.close
-    (tie.spec
-    returns
-    returns-2
-    mul-if3
-    add-if3
-    mul-if3-2
-    add-if3-2
-    returns-3
-    sum-requires
-    returns-4)
+    (tie.spec returns returns-2 (λ c. search needs) (λ c. search needs) (λ c. search needs) (λ c. search needs)
+    returns-3 (λ c κs. search needs) returns-4)

@@ -9,9 +9,6 @@ use borrow.Author.Needs.{needs}
 use Rattle.bookwrite.proofs.write.Statement.{statement}
 use Rattle.bookwrite.proofs.write.Tie as tie
 
-write-refusal-requires : tie.Need-write-refusal-requires
-write-refusal-requires c κs = search needs
-
 returns : tie.Need-returns
 returns c =
     let e = c .before .write-refusal .ensures in
@@ -20,9 +17,6 @@ returns c =
 
 put-book-requires : tie.Need-put-book-requires
 put-book-requires c κs = write-facts _ _ _ _ _ _ (sym (c .before .before .write-refusal .ensures) ∙ c .before .if1 .left)
-
-same-length : tie.Need-same-length
-same-length c = search needs
 
 returns-2 : tie.Need-returns-2
 returns-2 c =
@@ -37,4 +31,5 @@ returns-2 c =
 
 pub write-spec : {M : Type 1} → statement M
 write-spec =
-    tie.close (tie.spec write-refusal-requires returns put-book-requires same-length returns-2)
+    tie.close
+    (tie.spec (λ c κs. search needs) returns put-book-requires (λ c. search needs) returns-2)

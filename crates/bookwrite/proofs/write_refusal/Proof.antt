@@ -14,20 +14,11 @@ use Rattle.bookwrite.proofs.write_refusal.Tie as tie
 fits : (c : tie.Else1) → Sizes (c .before .before .before .before .before .before .before .args .counts .now) (c .before .before .before .before .before .before .before .args .kinds .now) (c .before .before .before .before .before .before .before .args .options .now) (c .before .before .before .before .before .before .before .args .days .now) (c .before .before .before .before .before .before .before .args .amounts .now)
 fits c = sizes-facts _ _ _ _ _ (sym (c .before .sizes-fine .ensures) ∙ not-false _ (c .if1 .left))
 
-sizes-fine-requires : tie.Need-sizes-fine-requires
-sizes-fine-requires c κs = search needs
-
 returns : tie.Need-returns
 returns c = simp (sym (c .before .sizes-fine .ensures) ∙ not-true _ (c .if1 .taken))
 
-kinds-fine-requires : tie.Need-kinds-fine-requires
-kinds-fine-requires c κs = search needs
-
 returns-2 : tie.Need-returns-2
 returns-2 c = simp (sym (c .before .before .before .sizes-fine .ensures) ∙ not-false _ (c .before .before .if1 .left), sym (c .before .kinds-fine .ensures) ∙ not-true _ (c .if2 .taken))
-
-mul-if3 : tie.Need-mul-if3
-mul-if3 c = search needs
 
 add-if3 : tie.Need-add-if3
 add-if3 c = omega (arith, fits (c .before .before))
@@ -55,14 +46,5 @@ returns-4 c = simp (
 pub write-refusal-spec : {M : Type 1} → statement M
 write-refusal-spec =
     tie.close
-    (tie.spec
-    sizes-fine-requires
-    returns
-    kinds-fine-requires
-    returns-2
-    mul-if3
-    add-if3
-    mul-if3-2
-    add-if3-2
-    returns-3
-    returns-4)
+    (tie.spec (λ c κs. search needs) returns (λ c κs. search needs) returns-2 (λ c. search needs) add-if3 mul-if3-2
+    add-if3-2 returns-3 returns-4)

@@ -21,9 +21,6 @@ add-put-number c =
     let a = c .before .before .before .args in
     omega (arith, ap (λ x. length (x ++ (a .mark ∷ []))) (signed-below (a .a) (a .b) (c .before .if1 .taken)))
 
-sub-put-number : tie.Need-sub-put-number
-sub-put-number c = search needs
-
 put-number-requires : tie.Need-put-number-requires
 put-number-requires c κs =
     let a = c .before .before .before .args in
@@ -50,9 +47,6 @@ put-number-requires-2 c κs =
     let a = c .before .before .before .args in
     omega (arith, ap (λ x. length (x ++ (a .mark ∷ []))) (signed-above (a .a) (a .b) (c .before .if1 .left)))
 
-same-length-2 : tie.Need-same-length-2
-same-length-2 c = search needs
-
 returns-2 : tie.Need-returns-2
 returns-2 c =
     let a = c .before .before .before .before .before .before .args in
@@ -63,13 +57,5 @@ returns-2 c =
 pub put-difference-spec : {M : Type 1} → statement M
 put-difference-spec =
     tie.close
-    (tie.spec
-    slice-write-out
-    add-put-number
-    sub-put-number
-    put-number-requires
-    same-length
-    returns
-    put-number-requires-2
-    same-length-2
-    returns-2)
+    (tie.spec slice-write-out add-put-number (λ c. search needs) put-number-requires same-length returns
+    put-number-requires-2 (λ c. search needs) returns-2)

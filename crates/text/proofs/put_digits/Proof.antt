@@ -15,27 +15,6 @@ Inv-loop out₀ p w n left₀ rest₀ out left rest = (sets out p (digits left r
 abbrev μ-loop : tie.MeasureT-loop
 μ-loop out₀ p w n left₀ rest₀ out left rest = left
 
-loop-holds : tie.Need-loop-holds Inv-loop μ-loop
-loop-holds c = search needs
-
-sub-left : tie.Need-sub-left Inv-loop μ-loop
-sub-left c = search needs
-
-cast-out : tie.Need-cast-out Inv-loop μ-loop
-cast-out c = search needs
-
-add-out : tie.Need-add-out Inv-loop μ-loop
-add-out c = search needs
-
-add-out-2 : tie.Need-add-out-2 Inv-loop μ-loop
-add-out-2 c = search needs
-
-slice-write-out : tie.Need-slice-write-out Inv-loop μ-loop
-slice-write-out c = search needs
-
-loop-less : tie.Need-loop-less Inv-loop μ-loop
-loop-less c = search needs
-
 loop-again : tie.Need-loop-again Inv-loop μ-loop
 loop-again c =
     let l = c .before .loop in
@@ -43,9 +22,6 @@ loop-again c =
     let e : l .left ≡ suc (l .left - 1) = omega arith in
     let q : a .p + (l .left - 1) ≡ a .p + length (digits (l .left - 1) (l .rest / 10)) = rw (length-digits (l .left - 1) (l .rest / 10)) in
     (sets-last (digits (l .left - 1) (l .rest / 10)) (l .out) (a .p) (a .p + (l .left - 1)) (48 + l .rest % 10) q ∙ (rw e at (l .inv .0)), omega arith, search needs)
-
-same-length : tie.Need-same-length Inv-loop μ-loop
-same-length c = search needs
 
 returns : tie.Need-returns Inv-loop μ-loop
 returns c =
@@ -56,16 +32,5 @@ returns c =
 pub put-digits-spec : {M : Type 1} → statement M
 put-digits-spec =
     tie.close
-    (tie.spec
-    Inv-loop
-    μ-loop
-    loop-holds
-    sub-left
-    cast-out
-    add-out
-    add-out-2
-    slice-write-out
-    loop-less
-    loop-again
-    same-length
-    returns)
+    (tie.spec Inv-loop μ-loop (λ c. search needs) (λ c. search needs) (λ c. search needs) (λ c. search needs)
+    (λ c. search needs) (λ c. search needs) (λ c. search needs) loop-again (λ c. search needs) returns)

@@ -14,9 +14,6 @@ use Rattle.text.proofs.put_number.Tie as tie
 room : (n mark : ℕ) → length (decimal n ++ (mark ∷ [])) ≡ width n + 1
 room n mark = rw (length-marked (decimal n) mark, length-decimal n)
 
-width-requires : tie.Need-width-requires
-width-requires c κs = search needs
-
 put-digits-requires : tie.Need-put-digits-requires
 put-digits-requires c κs =
     let a = c .before .before .before .args in
@@ -42,9 +39,6 @@ add-result-2 c =
     let a = c .before .before .before .before .before .before .args in
     omega (arith, c .before .before .before .before .width .ensures .0, room (a .n) (a .mark))
 
-same-length : tie.Need-same-length
-same-length c = search needs
-
 returns : tie.Need-returns
 unfolding decimal
 returns c =
@@ -61,12 +55,5 @@ returns c =
 pub put-number-spec : {M : Type 1} → statement M
 put-number-spec =
     tie.close
-    (tie.spec
-    width-requires
-    put-digits-requires
-    add-out
-    slice-write-out
-    add-result
-    add-result-2
-    same-length
-    returns)
+    (tie.spec (λ c κs. search needs) put-digits-requires add-out slice-write-out add-result add-result-2
+    (λ c. search needs) returns)

@@ -13,23 +13,11 @@ Inv-loop n left₀ w₀ rest₀ left w rest = (w + widthIn left rest ≡ 1 + wid
 abbrev μ-loop : tie.MeasureT-loop
 μ-loop n left₀ w₀ rest₀ left w rest = left
 
-loop-holds : tie.Need-loop-holds Inv-loop μ-loop
-loop-holds c = search needs
-
 returns : tie.Need-returns Inv-loop μ-loop
 unfolding width
 returns c =
     let l = c .before .before .loop in
     (omega (arith, width-stop (l .left) (l .rest) (omega arith) (omega arith)), omega arith)
-
-add-w : tie.Need-add-w Inv-loop μ-loop
-add-w c = search needs
-
-sub-left : tie.Need-sub-left Inv-loop μ-loop
-sub-left c = search needs
-
-loop-less : tie.Need-loop-less Inv-loop μ-loop
-loop-less c = search needs
 
 loop-again : tie.Need-loop-again Inv-loop μ-loop
 loop-again c =
@@ -46,4 +34,5 @@ returns-2 c =
 pub width-spec : {M : Type 1} → statement M
 width-spec =
     tie.close
-    (tie.spec Inv-loop μ-loop loop-holds returns add-w sub-left loop-less loop-again returns-2)
+    (tie.spec Inv-loop μ-loop (λ c. search needs) returns (λ c. search needs) (λ c. search needs) (λ c. search needs)
+    loop-again returns-2)
