@@ -121,7 +121,9 @@ judges-refused m e n p z =
     let q : eqb (refusalAt (stateOn m) e) 0 ≡ false = ne-eqb (refusalAt (stateOn m) e) 0 (λ y. z (p ∙ y)) in
     record { answer-is = rw (q, p); state-is = rw q }
 
-pub judges-accepted : (m : List ℕ) (e : Event) (r : ℕ) (k : List ℕ) → refusalAt (stateOn m) e ≡ 0 → r ≡ receiptAt (stateOn m) e → stateOn k ≡ applied (stateOn m) e (view (stateOn m) e) → Judges m e (Accepted r) k
+pub judges-accepted : (m : List ℕ) (e : Event) (r : ℕ) (k : List ℕ)
+    → refusalAt (stateOn m) e ≡ 0 → r ≡ receiptAt (stateOn m) e
+    → stateOn k ≡ applied (stateOn m) e (view (stateOn m) e) → Judges m e (Accepted r) k
 unfolding answerAt stateAfter
 judges-accepted m e r k z p q =
     let y : eqb (refusalAt (stateOn m) e) 0 ≡ true = eq-eqb (refusalAt (stateOn m) e) 0 z in

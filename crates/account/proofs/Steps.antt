@@ -136,7 +136,8 @@ module _ (m : List ℕ) (l : length m ≡ accountSize) (e : Event) where
 pub deposit-still : (m a : List ℕ) (e : Event) (v : View) → Became a (moneyAfter (stateOn m) e v) → DepositFit (stateOn m .deposit) → DepositFit (stateOn a .deposit)
 deposit-still m a e v b f = subst (λ s. DepositFit (s .deposit)) (sym (b .state-is)) f
 
-pub steps-are : (m a b c : List ℕ) (e : Event) (v : View) → Became a (moneyAfter (stateOn m) e v) → Became b (fileAfter (stateOn a) e) → Became c (serviceAfter (stateOn b) e) → Became c (applied (stateOn m) e v)
+pub steps-are : (m a b c : List ℕ) (e : Event) (v : View)
+    → Became a (moneyAfter (stateOn m) e v) → Became b (fileAfter (stateOn a) e) → Became c (serviceAfter (stateOn b) e) → Became c (applied (stateOn m) e v)
 unfolding applied
 steps-are m a b c e v p q r =
     record { words-are = r .words-are; state-is = r .state-is ∙ ap (λ s. serviceAfter s e) (q .state-is ∙ ap (λ s. fileAfter s e) (p .state-is)) }

@@ -8,8 +8,7 @@ charge-item-requires c κs =
     let n = c .before .before in
     let f = n .before .before .before .before in
     let s = f .before .before .before .before .before in
-    let a = s .args in
-    (now-free (a .m .now) (a .e) (s .pre .0) (f .before .word .result) (f .first-row .result) (n .item-row .result) (f .before .word .ensures) (f .first-row .ensures) (n .item-row .ensures) (c .before .if1 .taken), s .pre .1, n .before .before .amount-of .ensures)
+    (now-free _ _ (s .pre .0) _ _ _ (f .before .word .ensures) (f .first-row .ensures) (n .item-row .ensures) (c .before .if1 .taken), s .pre .1, n .before .before .amount-of .ensures)
 
 returns : tie.Need-returns
 returns c =
@@ -17,16 +16,14 @@ returns c =
     let n = p .before .before .before in
     let f = n .before .before .before .before in
     let s = f .before .before .before .before .before in
-    let a = s .args in
-    way-judged (a .m .now) (a .e) (s .pre .0) (f .before .word .result) (f .first-row .result) (n .item-row .result) (f .before .word .ensures) (f .first-row .ensures) (n .item-row .ensures) (p .before .before .if1 .taken) 0 (p .charge-item .last .0) (p .charge-item .ensures)
+    way-judged _ _ (s .pre .0) _ _ _ (f .before .word .ensures) (f .first-row .ensures) (n .item-row .ensures) (p .before .before .if1 .taken) _ _ (p .charge-item .ensures)
 
 returns-2 : tie.Need-returns-2
 returns-2 c =
     let n = c .before .before in
     let f = n .before .before .before .before in
     let s = f .before .before .before .before .before in
-    let a = s .args in
-    way-refused (a .m .now) (a .e) (s .pre .0) (f .before .word .result) (f .first-row .result) (n .item-row .result) (f .before .word .ensures) (f .first-row .ensures) (n .item-row .ensures) (c .select8 .result) (c .select8 .ensures) (c .before .if1 .left)
+    way-refused _ _ (s .pre .0) _ _ _ (f .before .word .ensures) (f .first-row .ensures) (n .item-row .ensures) _ (c .select8 .ensures) (c .before .if1 .left)
 
 pub item-spec : {M : Type 1} → statement M
 item-spec =

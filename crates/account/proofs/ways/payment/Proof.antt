@@ -8,8 +8,7 @@ pay-requires c κs =
     let n = c .before .before in
     let f = n .before .before in
     let s = f .before .before .before .before .before in
-    let a = s .args in
-    (now-free (a .m .now) (a .e) (s .pre .0) (f .before .word .result) (f .first-row .result) (n .credit-row .result) (f .before .word .ensures) (f .first-row .ensures) (n .credit-row .ensures) (c .before .if1 .taken), s .pre .1)
+    (now-free _ _ (s .pre .0) _ _ _ (f .before .word .ensures) (f .first-row .ensures) (n .credit-row .ensures) (c .before .if1 .taken), s .pre .1)
 
 returns : tie.Need-returns
 returns c =
@@ -17,16 +16,14 @@ returns c =
     let n = p .before .before .before in
     let f = n .before .before in
     let s = f .before .before .before .before .before in
-    let a = s .args in
-    way-judged (a .m .now) (a .e) (s .pre .0) (f .before .word .result) (f .first-row .result) (n .credit-row .result) (f .before .word .ensures) (f .first-row .ensures) (n .credit-row .ensures) (p .before .before .if1 .taken) (p .pay .result) (p .pay .last .0) (p .pay .ensures)
+    way-judged _ _ (s .pre .0) _ _ _ (f .before .word .ensures) (f .first-row .ensures) (n .credit-row .ensures) (p .before .before .if1 .taken) _ _ (p .pay .ensures)
 
 returns-2 : tie.Need-returns-2
 returns-2 c =
     let n = c .before .before in
     let f = n .before .before in
     let s = f .before .before .before .before .before in
-    let a = s .args in
-    way-refused (a .m .now) (a .e) (s .pre .0) (f .before .word .result) (f .first-row .result) (n .credit-row .result) (f .before .word .ensures) (f .first-row .ensures) (n .credit-row .ensures) (c .select8 .result) (c .select8 .ensures) (c .before .if1 .left)
+    way-refused _ _ (s .pre .0) _ _ _ (f .before .word .ensures) (f .first-row .ensures) (n .credit-row .ensures) _ (c .select8 .ensures) (c .before .if1 .left)
 
 pub payment-spec : {M : Type 1} → statement M
 payment-spec =
