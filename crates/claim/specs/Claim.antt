@@ -40,7 +40,8 @@ refusedIn (x ∷ xs) = cond (accepts x) 0 1 + refusedIn xs
 
 -- m is the memory of the account after the list es, said are its answers, h the accepted events of es
 pub record ClaimOf (m : List ℕ) (said : List Answer) (es : List Event) (h : History) : Type 0 where
-  -- each answer is the one that the events alone give: accepted exactly when no number refuses the event after those accepted before it, else that number; a payment's receipt is the count of accepted payments
+  -- each answer is the one that the events alone give: accepted exactly when no number refuses the event
+  -- after those accepted before it, else that number; a payment's receipt is the count of accepted payments
   pub answered : said ≡ answersBy es
   -- every event is refused or among the accepted
   pub refused : refusedIn said + length h ≡ length es

@@ -9,7 +9,8 @@ use Rattle.rules.specs.History.{is}
 unfoldable pub looksAtDebt : Event → Bool
 looksAtDebt e = is arrangement e || is finalNotice e || is disconnection e || is reconnection e
 
--- the View without what e's kind does not look at: the payment of a receipt is for a returned payment, whether the deposit is earned for its move, and notices, calls, certificates and arrangements for the kinds that look at the debt
+-- the View without what e's kind does not look at: the payment of a receipt is for a returned payment, whether the deposit is
+-- earned for its move, and notices, calls, certificates and arrangements for the kinds that look at the debt
 abbrev pub seenOf : View → Event → View
 seenOf v e =
     record {
