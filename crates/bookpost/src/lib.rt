@@ -3,6 +3,7 @@ use account::Account;
 use account::judge;
 use layout::Outcome;
 use layout::event_at;
+use lent::post_through;
 use little::get;
 use rules::Answer;
 ghost use mathlib.Core.Path.{_≡_};
@@ -58,7 +59,7 @@ fn note_account(b: &[u8], i: usize, numbers: &mut [u8], owed: &mut [i64])
     let mut at: usize = 0;
     let mut account = Account::fresh();
     while 0 < left {
-        let p = account.post(book::record(b, k));
+        let p = post_through(account, book::record(b, k));
         let answer = p.answer;
         let next = p.account;
         let memory = next.memory;
