@@ -1,4 +1,5 @@
 // The core for programs in other languages: a static library with plain names. include/hollupaq.h says the same in C.
+mod books;
 mod kept;
 
 use bookpost::history;
@@ -6,7 +7,11 @@ use report::Printed;
 use report::report;
 ghost use mathlib.Core.Path.{_≡_};
 ghost use Rattle.report.specs.Report.{textOf};
-ghost use Rattle.hollupaq.specs.Library.{Written, bytesOf, Noted};
+ghost use Rattle.bookpost.specs.History.{Told};
+ghost use Rattle.hollupaq.specs.Library.{Written, bytesOf};
+
+// What is answered from here on is accepted: 256 and a value. Below it stands the number that refuses.
+const ACCEPTED: u64 = 256;
 
 // How many bytes were written, 0 where the output was too short.
 fn bytes_of(p: Printed) -> u64
@@ -38,7 +43,7 @@ pub extern "C" fn hollupaq_history(
     numbers: &mut [u8],
     owed: &mut [i64],
 ) -> u8
-    ensures { λ r. ⌜ Noted (now (book .entry)) account (now (numbers .entry)) (now (numbers .exit)) (now (owed .entry)) (now (owed .exit)) r ⌝ }
+    ensures { λ r. ⌜ Told (now (book .entry)) account (now (numbers .entry)) (now (numbers .exit)) (now (owed .entry)) (now (owed .exit)) r ⌝ }
 {
     let o = history(book, account, numbers, owed);
     o.number()
