@@ -11,8 +11,8 @@
  * a book or an account that another reads.
  *
  * What a call reads and its memory for output must not overlap, nor two pieces
- * of memory for output. No pointer may be null, not even where its
- * length is 0: pass a valid one then too.
+ * of memory for output. No pointer may be null, not even where its length is 0:
+ * pass a valid one then too.
  */
 #ifndef HOLLUPAQ_H
 #define HOLLUPAQ_H
