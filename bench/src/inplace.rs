@@ -642,8 +642,8 @@ pub fn report(book: &[u8], out: &mut [u8]) -> usize {
 mod tests {
     use super::*;
     use crate::books::Dice;
+    use tools::core;
     use tools::event::Event;
-    use tools::{book, core};
 
     /// An event that is often in range and near the bounds of the rules.
     fn any_event(dice: &mut Dice, day: &mut u32) -> Event {
@@ -674,7 +674,7 @@ mod tests {
             let mut dice = Dice::new(seed);
             let mut day = dice.roll(0, 72_000) as u32;
             let events: Vec<Event> = (0..200).map(|_| any_event(&mut dice, &mut day)).collect();
-            let book = book::encode(&[events]);
+            let book = core::books::write(&[events]).unwrap();
             let mut account = Account::fresh();
             let answers = core::history(&book, 0).unwrap();
             for (k, (bytes, reply)) in records(&book, 0).iter().zip(answers).enumerate() {

@@ -13,6 +13,7 @@ ghost use Prim.Native.Nat.{_≤_};
 ghost use lib.ListN.{length};
 ghost use lib.Seq.{sets};
 ghost use Rattle.layout.specs.Book.{bookRefusal};
+ghost use Rattle.layout.specs.Answers.{numberOf, outcomeOf};
 ghost use Rattle.layout.specs.Finding.{accountOf};
 ghost use Rattle.claim.specs.Claim.{freshWords, accepts, Ran};
 ghost use Rattle.bookpost.specs.History.{numbersOf, owedFrom, historyRefusal, Told};
@@ -87,7 +88,8 @@ fn history_refusal(b: &[u8], i: usize, n: usize, m: usize) -> u8
 // The history of account i: the number of the answer to each record, 0 for accepted, and what is owed after it. An account
 // past the last has no records. A slice longer than the history keeps its tail; a refusal changes nothing.
 pub fn history(b: &[u8], i: usize, numbers: &mut [u8], owed: &mut [i64]) -> Outcome
-    ensures { λ r. ⌜ Told (now (b .entry)) i (now (numbers .entry)) (now (numbers .exit)) (now (owed .entry)) (now (owed .exit)) r ⌝ }
+    ensures { λ r. ⌜ Told (now (b .entry)) i (now (numbers .entry)) (now (numbers .exit)) (now (owed .entry)) (now (owed .exit)) (numberOf r) ⌝ }
+    ensures { λ r. ⌜ r ≡ outcomeOf (numberOf r) ⌝ }
 {
     let n = history_refusal(b, i, numbers.len(), owed.len());
     if n != 0 {

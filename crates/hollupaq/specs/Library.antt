@@ -2,9 +2,8 @@
 use Prim.Native.Nat.{ℕ, _+_, min}
 use mathlib.Core.Path.{_≡_}
 use mathlib.Core.Bool.{Bool, cond}
-use mathlib.Core.List.{List, [], map}
+use mathlib.Core.List.{List, map}
 use lib.Dec.{eqb}
-use lib.IntN.{ℤ}
 use lib.ListN.{length}
 use Rattle.basics.specs.Machine.{largest}
 use Rattle.rules.specs.declared.Event.{Event}
@@ -25,9 +24,6 @@ use Rattle.questions.specs.declared.Truth.the-variants as truth
 use Rattle.questions.specs.Questions.{arrearsOn, inForceOn, noticeLiveOn, certifiedOn}
 use Rattle.claim.specs.Run.{LeftBy}
 use Rattle.claim.specs.Claim.{freshWords, ClaimOf}
-use Rattle.layout.specs.Lent.{after}
-use Rattle.layout.specs.Finding.{accountOf}
-use Rattle.bookpost.specs.History.{numbersOf, owedFrom, historyRefusal}
 use Rattle.report.specs.declared.Printed.{Printed}
 use Rattle.report.specs.declared.Printed.the-variants as printed
 use Rattle.report.specs.Report.{printedAs, printedIn}
@@ -41,12 +37,6 @@ bytesOf (printed.Refused n) = 0
 pub record Written (text old new : List ℕ) (r : ℕ) : Type 0 where
   pub answer : r ≡ bytesOf (printedAs text old)
   pub bytes : new ≡ printedIn text old
-
--- what telling a history does: its answer, and every element of both slices
-pub record Noted (b : List ℕ) (i : ℕ) (ns ns2 : List ℕ) (os os2 : List ℤ) (r : ℕ) : Type 0 where
-  pub answer : r ≡ historyRefusal b i (length ns) (length os)
-  pub numbers : ns2 ≡ after (historyRefusal b i (length ns) (length os)) (numbersOf (accountOf b i)) ns
-  pub owing : os2 ≡ after (historyRefusal b i (length ns) (length os)) (owedFrom [] (accountOf b i)) os
 
 -- ---- an account that the caller keeps
 -- under 256 the number that refuses, 0 where the memory is no account; else 256 and the receipt of a payment, or 256 alone

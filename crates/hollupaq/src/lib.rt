@@ -1,4 +1,5 @@
 // The core for programs in other languages: a static library with plain names. include/hollupaq.h says the same in C.
+mod books;
 mod days;
 mod kept;
 
@@ -7,7 +8,8 @@ use report::Printed;
 use report::report;
 ghost use mathlib.Core.Path.{_≡_};
 ghost use Rattle.report.specs.Report.{textOf};
-ghost use Rattle.hollupaq.specs.Library.{Written, bytesOf, Noted};
+ghost use Rattle.bookpost.specs.History.{Told};
+ghost use Rattle.hollupaq.specs.Library.{Written, bytesOf};
 
 // What is answered from here on is accepted, or told: 256 and the value. Below it stands the number that refuses.
 const ACCEPTED: u64 = 256;
@@ -42,7 +44,7 @@ pub extern "C" fn hollupaq_history(
     numbers: &mut [u8],
     owed: &mut [i64],
 ) -> u8
-    ensures { λ r. ⌜ Noted (now (book .entry)) account (now (numbers .entry)) (now (numbers .exit)) (now (owed .entry)) (now (owed .exit)) r ⌝ }
+    ensures { λ r. ⌜ Told (now (book .entry)) account (now (numbers .entry)) (now (numbers .exit)) (now (owed .entry)) (now (owed .exit)) r ⌝ }
 {
     let o = history(book, account, numbers, owed);
     o.number()

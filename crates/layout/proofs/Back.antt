@@ -1,25 +1,22 @@
--- A list that was read is fit to be written, and the memory that it is in says the list.
+-- The first round trip on lent memory: a list that was read is fit to be written, and its book is the one that was read.
 use mathlib.Core.Path.{_≡_, refl, sym, ap, _∙_}
-use mathlib.Core.Bool.{Bool, true, cond, _&&_}
+use mathlib.Core.Bool.{true, _&&_}
 use mathlib.Core.List.{List, [], _∷_, map}
 use Prim.Native.Nat.{ℕ, zero, suc, _+_, _≤_}
 use native.Mathlib.Omega.{arith}
-use borrow.Author.Tests.{leb-true, le-leb, eq-eqb}
-use lib.Dec.{leb, eqb}
+use borrow.Author.Tests.{le-leb, eq-eqb}
+use lib.Dec.{eqb}
 use lib.ListN.{length, take, drop, getD, length-map}
 use lib.Seq.{take-append-seam}
 use Rattle.rules.specs.declared.Event.{Event}
 use Rattle.basics.proofs.Cases.{and-left, and-right, and-both}
 use Rattle.little.specs.Little.{Bytes}
-use Rattle.layout.specs.declared.Outcome.{Outcome}
-use Rattle.layout.specs.Answers.{outcomeOf}
 use Rattle.layout.specs.Book.{AccountList, mostAccounts, longest, base, size, accounts, records, kindFine, recordFine, recordsFine, bookRefusal, eventsAt, countsAt, split, flat, encode, decode}
-use Rattle.layout.specs.Lent.{after, orElse, lent, lentAt, lentList, total, kindsFine, writeRefusal, readRefusal, kindsOf, optionsOf, daysOf, amountsOf, Left, Wrote}
-use Rattle.layout.specs.Facts.{Header, Fits}
-use Rattle.layout.proofs.Tests.{passed}
-use Rattle.layout.proofs.Told.{book-facts, or-zero, read-facts}
+use Rattle.layout.specs.Lent.{after, lent, lentAt, lentList, total, kindsFine, writeRefusal, kindsOf, optionsOf, daysOf, amountsOf, Left, Wrote}
+use Rattle.layout.specs.Facts.{Header}
+use Rattle.layout.specs.Trips.{BookBack}
+use Rattle.layout.proofs.Told.{book-facts, read-facts}
 use Rattle.layout.proofs.Trips.{decode-parts, table-total, length-counts, length-events, split-flat, encode-decode}
-use Rattle.booktrip.specs.Trip.{rewriteRefusal}
 
 -- ---- the fields of records, as lists
 
@@ -34,7 +31,7 @@ lent-of [] = refl
 lent-of (e ∷ es) = ap (λ l. e ∷ l) (lent-shift (length es) 0 (e .kind) (e .option) (e .day) (e .amount) (kindsOf es) (optionsOf es) (daysOf es) (amountsOf es) ∙ lent-of es)
 
 -- an account list in memory is that list
-pub lent-list : (l : AccountList) → lentList (map length l) (kindsOf (flat l)) (optionsOf (flat l)) (daysOf (flat l)) (amountsOf (flat l)) ≡ l
+lent-list : (l : AccountList) → lentList (map length l) (kindsOf (flat l)) (optionsOf (flat l)) (daysOf (flat l)) (amountsOf (flat l)) ≡ l
 lent-list l =
     let es = flat l in
     ap (λ n. split (map length l) (lent n 0 (kindsOf es) (optionsOf es) (daysOf es) (amountsOf es))) (length-map es (λ e. e .kind))
@@ -58,7 +55,7 @@ kinds-back (suc n) p b e =
     let g = and-right (recordFine p b) (recordsFine n (p + 16) b) e in
     and-both (kindFine k) (kindsFine n 1 (k ∷ ks)) (and-left (kindFine k) (eqb (getD b (p + 2) 0) 0 && eqb (getD b (p + 3) 0) 0) f) (kinds-shift n 0 k ks ∙ kinds-back n (p + 16) b g)
 
-pub written-again : (b : List ℕ) (room : ℕ) → bookRefusal b ≡ 0 → length b ≤ room
+written-again : (b : List ℕ) (room : ℕ) → bookRefusal b ≡ 0 → length b ≤ room
     → writeRefusal (map length (decode b)) (kindsOf (flat (decode b))) (optionsOf (flat (decode b))) (daysOf (flat (decode b))) (amountsOf (flat (decode b))) room ≡ 0
 written-again b room z h =
     let f : Header b = book-facts b z .0 in
@@ -84,28 +81,17 @@ written-again b room z h =
       le-leb (size a r) room (omega (arith, f)),
     )))
 
--- ---- the first round trip
-
-pub rewrite-facts : (b : List ℕ) (lc lk lo ld lm room : ℕ) → rewriteRefusal b lc lk lo ld lm room ≡ 0 → Fits b lc lk lo ld lm × (length b ≤ room)
-rewrite-facts b lc lk lo ld lm room e =
-    let p = or-zero (readRefusal b lc lk lo ld lm) (cond (leb (length b) room) 0 22) e in
-    (read-facts b lc lk lo ld lm (p .0), leb-true _ _ (passed (leb (length b) room) 0 21 (p .1) .0))
-
-pub rewrite-reads : (b : List ℕ) (lc lk lo ld lm room : ℕ) → rewriteRefusal b lc lk lo ld lm room ≡ 0 → readRefusal b lc lk lo ld lm ≡ 0
-rewrite-reads b lc lk lo ld lm room e = or-zero (readRefusal b lc lk lo ld lm) (cond (leb (length b) room) 0 22) e .0
-
-pub rewrite-as : (b : List ℕ) (lc lk lo ld lm room : ℕ) (t : Bool) → readRefusal b lc lk lo ld lm ≡ 0 → leb (length b) room ≡ t → cond t 0 22 ≡ rewriteRefusal b lc lk lo ld lm room
-rewrite-as b lc lk lo ld lm room t z e = sym (ap (λ n. orElse n (cond (leb (length b) room) 0 22)) z ∙ ap (λ x. cond x 0 22) e)
+-- ---- the round trip
 
 pub front : (n : ℕ) (new old : List ℕ) → length new ≡ n → take n (after 0 new old) ≡ new
 front n new old e = rw (← e) (take-append-seam new (drop (length new) old))
 
--- what was written of the list that was read is the book
-pub rewrote : (b cs ks os ds ms old cs2 ks2 os2 ds2 ms2 new : List ℕ) (r : Outcome) → Bytes b → bookRefusal b ≡ 0 → length b ≤ length old
+-- what was written of the list that was read
+rewrote : (b cs ks os ds ms old cs2 ks2 os2 ds2 ms2 new : List ℕ) (n : ℕ) → Bytes b → bookRefusal b ≡ 0 → length b ≤ length old
     → Left 0 (decode b) cs ks os ds ms cs2 ks2 os2 ds2 ms2
-    → Wrote (take (accounts b) cs2) (take (records b) ks2) (take (records b) os2) (take (records b) ds2) (take (records b) ms2) old new r
-    → (r ≡ outcomeOf 0) × (new ≡ after 0 b old)
-rewrote b cs ks os ds ms old cs2 ks2 os2 ds2 ms2 new r t z h m w =
+    → Wrote (take (accounts b) cs2) (take (records b) ks2) (take (records b) os2) (take (records b) ds2) (take (records b) ms2) old new n
+    → (n ≡ 0) × (new ≡ after 0 b old)
+rewrote b cs ks os ds ms old cs2 ks2 os2 ds2 ms2 new n t z h m w =
     let l = decode b in
     let es = flat l in
     let na : length (map length l) ≡ accounts b = ap length (decode-parts b z .0) ∙ length-counts (accounts b) 8 b in
@@ -115,7 +101,13 @@ rewrote b cs ks os ds ms old cs2 ks2 os2 ds2 ms2 new r t z h m w =
     let eo : take (records b) os2 ≡ optionsOf es = ap (λ x. take (records b) x) (m .options) ∙ front (records b) (optionsOf es) os (length-map es (λ e. e .option) ∙ nr) in
     let ed : take (records b) ds2 ≡ daysOf es = ap (λ x. take (records b) x) (m .days) ∙ front (records b) (daysOf es) ds (length-map es (λ e. e .day) ∙ nr) in
     let em : take (records b) ms2 ≡ amountsOf es = ap (λ x. take (records b) x) (m .amounts) ∙ front (records b) (amountsOf es) ms (length-map es (λ e. e .amount) ∙ nr) in
-    let w2 : Wrote (map length l) (kindsOf es) (optionsOf es) (daysOf es) (amountsOf es) old new r = rw (ec, ek, eo, ed, em) at w in
+    let w2 : Wrote (map length l) (kindsOf es) (optionsOf es) (daysOf es) (amountsOf es) old new n = rw (ec, ek, eo, ed, em) at w in
     let g = written-again b (length old) z h in
     let s = ap encode (lent-list l) ∙ encode-decode b t z in
-    (w2 .answer ∙ ap outcomeOf g, w2 .bytes ∙ ap (λ n. after n (encode (lentList (map length l) (kindsOf es) (optionsOf es) (daysOf es) (amountsOf es))) old) g ∙ ap (λ x. after 0 x old) s)
+    (w2 .answer ∙ g, w2 .bytes ∙ ap (λ k. after k (encode (lentList (map length l) (kindsOf es) (optionsOf es) (daysOf es) (amountsOf es))) old) g ∙ ap (λ x. after 0 x old) s)
+
+pub book-back : (b : List ℕ) → Bytes b → BookBack b
+book-back b t cs ks os ds ms cs2 ks2 os2 ds2 ms2 old new n g w h =
+    let z = sym (g .answer) in
+    let f = read-facts b (length cs) (length ks) (length os) (length ds) (length ms) z in
+    rewrote b cs ks os ds ms old cs2 ks2 os2 ds2 ms2 new n t (f .refusal) h (rw z at (g .memory)) w
