@@ -18,18 +18,11 @@ use Rattle.claim.specs.Claim.{freshWords, ClaimOf}
 use Rattle.layout.specs.Lent.{after}
 use Rattle.layout.specs.Finding.{accountOf}
 use Rattle.bookpost.specs.History.{numbersOf, owedFrom, historyRefusal}
-use Rattle.report.specs.declared.Printed.{Printed}
-use Rattle.report.specs.declared.Printed.the-variants as printed
-use Rattle.report.specs.Report.{printedAs, printedIn}
+use Rattle.report.specs.Report.{printLength, printedIn}
 
--- how many bytes were written; 0 where the output was too short, which no text is
-abbrev pub bytesOf : Printed → ℕ
-bytesOf (printed.Bytes n) = n
-bytesOf (printed.Refused n) = 0
-
--- what writing a text does: its answer, and every byte of the output
+-- what writing a text does: how many bytes it took, 0 where the output was too short, which no text is; and every byte of the output
 pub record Written (text old new : List ℕ) (r : ℕ) : Type 0 where
-  pub answer : r ≡ bytesOf (printedAs text old)
+  pub answer : r ≡ printLength text old
   pub bytes : new ≡ printedIn text old
 
 -- what telling a history does: its answer, and every element of both slices
