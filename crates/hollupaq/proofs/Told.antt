@@ -1,14 +1,24 @@
--- What the library tells of a book or a list: the number that refuses it, or a value.
-use Prim.Native.Nat.{ℕ, zero, suc, _+_}
+-- What the library tells: the number that refuses, or a value.
+use Prim.Native.Nat.{ℕ, zero, suc, _+_, _≤_}
 use mathlib.Core.Path.{_≡_, refl, sym, _∙_}
+use mathlib.Core.Bool.{Bool, true, false, cond, true≢false}
 use mathlib.Core.List.{List}
+use native.Mathlib.Omega.{arith}
+use lib.Dec.{eqb}
 use lib.ListN.{length}
+use Rattle.rules.specs.Table.{limit}
 use Rattle.layout.specs.Book.{size}
 use Rattle.layout.specs.Lent.{Wrote}
 use Rattle.layout.specs.Facts.{Sizes}
 use Rattle.layout.proofs.Told.{write-facts}
 use Rattle.layout.proofs.Forth.{length-written}
-use Rattle.hollupaq.specs.Books.{told, Stored}
+use Rattle.questions.specs.declared.Amount.{Amount}
+use Rattle.questions.specs.declared.Amount.the-variants as amount
+use Rattle.questions.specs.declared.Truth.{Truth}
+use Rattle.questions.specs.declared.Truth.the-variants as truth
+use Rattle.questions.specs.Questions.{Tells, Says}
+use Rattle.hollupaq.specs.Library.{told, toldYes, amountWord, truthWord}
+use Rattle.hollupaq.specs.Books.{Stored}
 
 pub told-number : (n v : ℕ) → (n ≡ 0 → ⊥) → n ≡ told n v
 told-number zero v h = absurd (h refl)
@@ -17,7 +27,22 @@ told-number (suc n) v h = refl
 pub told-value : (n v w : ℕ) → n ≡ 0 → v ≡ w → 256 + v ≡ told n w
 told-value n v w z e = rw (z, e)
 
--- a list that was written with this number
+not-told : (n v : ℕ) → false ≡ eqb n 0 → n ≡ told n v
+not-told n v q = told-number n v (λ z. true≢false (sym (rw z at q)))
+
+-- ---- for a day
+pub told-word : (a : Amount) (n c : ℕ) → c ≤ limit → Tells a n c → amountWord a ≡ told n c
+told-word (amount.Cents x) n c l t =
+    let z : x ≡ c = t .cents ∙ rw (sym (t .told)) in
+    (omega arith) ∙ told-value n x c (sym (t .number)) z
+told-word (amount.Refused x) n c l t = t .number ∙ not-told n c (t .told)
+
+pub said-word : (x : Truth) (n : ℕ) (b : Bool) → Says x n b → truthWord x ≡ toldYes n b
+said-word truth.Yes n b s = told-value n 1 (cond b 1 0) (sym (s .number)) (let z = rw (sym (s .told)) at (s .yes) in rw (sym z))
+said-word truth.No n b s = told-value n 0 (cond b 1 0) (sym (s .number)) (let z = rw (sym (s .told)) at (s .yes) in rw (sym z))
+said-word (truth.Refused x) n b s = s .number ∙ not-told n _ (s .told)
+
+-- ---- a list that was written with this number
 module _ (cs ks os ds ms old new : List ℕ) (n : ℕ) (w : Wrote cs ks os ds ms old new n) where
   pub stored-not : (n ≡ 0 → ⊥) → Stored cs ks os ds ms old new n
   stored-not h = record { answer = w .answer ∙ told-number _ _ (rw (w .answer) at h); bytes = w .bytes }

@@ -1,15 +1,11 @@
 -- The static library's answers about books and account lists.
-use Prim.Native.Nat.{ℕ, zero, suc, _+_}
+use Prim.Native.Nat.{ℕ}
 use mathlib.Core.Path.{_≡_}
 use mathlib.Core.List.{List}
 use lib.ListN.{length}
 use Rattle.layout.specs.Book.{encode}
 use Rattle.layout.specs.Lent.{after, lentList, writeRefusal}
-
--- under 256 the number that refuses; where none does, 256 and the value asked for
-abbrev pub told : ℕ → ℕ → ℕ
-told zero v = 256 + v
-told (suc n) v = suc n
+use Rattle.hollupaq.specs.Library.{told}
 
 -- what writing a list does: its answer with the length of the book, and every byte of the output
 pub record Stored (cs ks os ds ms old new : List ℕ) (r : ℕ) : Type 0 where

@@ -5,7 +5,8 @@ use little::get;
 ghost use mathlib.Core.Path.{_≡_};
 ghost use Rattle.layout.specs.Book.{accounts, records, bookRefusal};
 ghost use Rattle.layout.specs.Lent.{Gave};
-ghost use Rattle.hollupaq.specs.Books.{told, Stored};
+ghost use Rattle.hollupaq.specs.Library.{told};
+ghost use Rattle.hollupaq.specs.Books.{Stored};
 
 // The test of a book: 20 or 21 where it is refused, else 256 and how many accounts it has.
 #[no_mangle]
