@@ -8,9 +8,10 @@ use Rattle.rules.specs.Table.{refusalBy}
 use Rattle.rules.proofs.Events.{Case, wrong}
 use Rattle.rules.proofs.Paper.{paper}
 use Rattle.rules.proofs.Edges.{edges}
+use Rattle.rules.proofs.Orders.{orders}
 
 abbrev pub cases : List Case
-cases = paper ++ edges
+cases = paper ++ (edges ++ orders)
 
 -- no case is wrong
 pub marked : wrong cases ≡ []
