@@ -140,6 +140,7 @@ charges =
 abbrev receipts : List Case
 receipts =
     shows "the third receipt" receipt (payment 0 9 ∷ call 0 ∷ payment 0 9 ∷ payment 0 9 ∷ []) 3
+    ∷ shows "no other event counts" receipt (common 0 ++ (payment 0 9 ∷ [])) 2
     ∷ shows "no receipt for a bill" receipt (payment 0 9 ∷ bill 0 9 ∷ []) 0
     ∷ shows "no receipt for a deposit" receipt (asked 0 9 ∷ paid 0 9 ∷ []) 0
     ∷ shows "a returned payment still counts" receipt (payment 0 9 ∷ returned 0 1 ∷ payment 0 9 ∷ []) 2
@@ -348,7 +349,7 @@ arrangements =
     ∷ ends "no more than the debt is due" (bill 0 7 ∷ arrangement 20 6 ∷ payment 20 7 ∷ bill 25 100 ∷ arrangement 140 2 ∷ []) 9
     ∷ ends "on its last day" (bill 0 6000 ∷ arrangement 20 2 ∷ payment 20 6000 ∷ bill 25 500 ∷ arrangement 79 2 ∷ []) 9
     ∷ ends "over after its last day" (bill 0 6000 ∷ arrangement 20 2 ∷ payment 20 6000 ∷ bill 25 500 ∷ arrangement 80 2 ∷ []) 0
-    ∷ ends "the debt is the arrears, no more" (bill 0 6000 ∷ bill 10 9000 ∷ arrangement 20 2 ∷ payment 50 3000 ∷ arrangement 50 2 ∷ []) 9
+    ∷ ends "the debt is the arrears of its day" (bill 0 6000 ∷ bill 1 9000 ∷ arrangement 20 2 ∷ payment 50 3000 ∷ arrangement 50 2 ∷ []) 9
     ∷ ends "payments before it do not count" (bill 0 6000 ∷ payment 0 1000 ∷ arrangement 20 2 ∷ payment 50 2499 ∷ arrangement 50 2 ∷ []) 0
     ∷ ends "payments after it do" (bill 0 6000 ∷ payment 0 1000 ∷ arrangement 20 2 ∷ payment 50 2500 ∷ arrangement 50 2 ∷ []) 9
     ∷ ends "payments of its day, posted before it" (bill 0 6000 ∷ payment 20 1000 ∷ arrangement 20 2 ∷ payment 50 2499 ∷ arrangement 50 2 ∷ []) 0
@@ -366,6 +367,7 @@ arrangements =
     ∷ shows "not in force" (stands 50) (bill 0 6000 ∷ arrangement 20 2 ∷ []) 0
     ∷ shows "after closing too" (stands 49) (bill 0 6000 ∷ arrangement 20 2 ∷ close 20 ∷ []) 1
     ∷ shows "caught up after closing" (stands 50) (bill 0 6000 ∷ arrangement 20 2 ∷ close 20 ∷ payment 50 3000 ∷ []) 1
+    ∷ shows "a deposit moved by closing is no payment" (stands 50) (bill 0 6000 ∷ arrangement 20 2 ∷ asked 20 3000 ∷ paid 20 3000 ∷ close 20 ∷ []) 0
     ∷ ends "no cut on the last day without a part due" (bill 0 6000 ∷ arrangement 20 2 ∷ notice 44 ∷ call 48 ∷ cut 49 ∷ []) 14
     ∷ ends "a cut on the day the part is due" (bill 0 6000 ∷ arrangement 20 2 ∷ notice 44 ∷ call 48 ∷ cut 50 ∷ []) 0
     ∷ []

@@ -1,4 +1,5 @@
--- Our own cases: where several rows refuse an event, the lowest number answers. Each case has as many of them refuse as can meet.
+-- Our own cases: where several rows refuse an event, the lowest number answers. In each case as many of them refuse as can meet;
+-- rows 1 and 2 never do.
 use mathlib.Core.List.{List, [], _∷_, _++_}
 use Rattle.rules.specs.declared.Event.{Event}
 use Rattle.rules.proofs.Events.{event, bill, payment, returned, fee, asked, paid, moved, certificate, arrangement, notice, call, cut, reconnection, close, times, Case, ends}
@@ -19,8 +20,7 @@ guarded = bill 0 100 ∷ arrangement 20 2 ∷ certificate 20 9 ∷ []
 
 abbrev pub orders : List Case
 orders =
-    ends "1 before 2" (call 5 ∷ call 73049 ∷ []) 1
-    ∷ ends "1 before 3" (event 99 73049 9 9 ∷ []) 1
+    ends "1 before 3" (event 99 73049 9 9 ∷ []) 1
     ∷ ends "1 before 4" (close 5 ∷ bill 73049 1 ∷ []) 1
     ∷ ends "2 before 3" (call 5 ∷ event 99 4 9 9 ∷ []) 2
     ∷ ends "2 before 4" (close 5 ∷ bill 4 1 ∷ []) 2
