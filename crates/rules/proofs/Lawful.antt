@@ -15,7 +15,7 @@ use Rattle.rules.specs.Deposit.{held}
 use Rattle.rules.specs.Money.{credited, credits, charged, owed}
 use Rattle.rules.specs.Sums.{lateCharges, feesCharged, returnedPayments}
 use Rattle.rules.specs.Accepted.{viewOf, refusal, offered, acceptedAfter, accepted, Lawful}
-use Rattle.rules.proofs.Sums.{deposits, charged-parts}
+use Rattle.rules.proofs.Sums.{total-grows, credited-step, deposits, charged-parts}
 use Rattle.rules.proofs.Passed.{passed}
 use Rattle.rules.proofs.Room.{payout-in}
 
@@ -32,11 +32,11 @@ accepted-lawful es = after-lawful [] es tt
 
 -- ---- P is a number: payouts are at most what was credited
 pub payouts : (h : History) → Lawful h → total payout h ≤ credited h
-payouts [] l = omega arith
+payouts [] l = omega (arith, total-grows payout [])
 payouts (e ∷ h) l =
     let ih = payouts h (l .1) in
     let f = payout-in (viewOf h e) e (passed h e (l .0) .allowed .r7) in
-    omega arith
+    omega (arith, total-grows payout (e ∷ h), credited-step e h)
 
 -- ---- the sum of demand 3: owed less held is bills, late charges, fees, returned payments and payouts, less payments and deposits paid
 pub money : (h : History) → Lawful h
