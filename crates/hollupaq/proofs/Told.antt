@@ -4,11 +4,11 @@ use mathlib.Core.Path.{_≡_, refl, sym, _∙_}
 use mathlib.Core.Bool.{Bool, true, false, cond, true≢false}
 use mathlib.Core.List.{List}
 use native.Mathlib.Omega.{arith}
-use lib.Dec.{eqb}
+use lib.Dec.{leb, eqb}
 use lib.ListN.{length}
 use Rattle.rules.specs.Table.{limit}
 use Rattle.layout.specs.Book.{size}
-use Rattle.layout.specs.Lent.{Wrote}
+use Rattle.layout.specs.Lent.{sizesFine, kindsFine, writeRefusal, Wrote}
 use Rattle.layout.specs.Facts.{Sizes}
 use Rattle.layout.proofs.Told.{write-facts}
 use Rattle.layout.proofs.Forth.{length-written}
@@ -54,3 +54,21 @@ module _ (cs ks os ds ms old new : List ℕ) (n : ℕ) (w : Wrote cs ks os ds ms
 
   pub stored-sizes : n ≡ 0 → Sizes cs ks os ds ms
   stored-sizes z = write-facts cs ks os ds ms (length old) (sym (w .answer) ∙ z) .sizes
+
+-- ---- what the library stored was written, so that the round trips hold of it (`ListBack` in layout/specs/Trips.antt)
+
+small : (b : Bool) (x k : ℕ) → x ≤ 22 → k ≤ 22 → cond b x k ≤ 22
+small true x k p q = p
+small false x k p q = q
+
+write-small : (cs ks os ds ms : List ℕ) (room : ℕ) → writeRefusal cs ks os ds ms room ≤ 22
+write-small cs ks os ds ms room = small (sizesFine cs ks os ds ms) _ 20 (small (kindsFine (length ks) 0 ks) _ 21 (small (leb (size (length cs) (length ks)) room) 0 22 (omega arith) (omega arith)) (omega arith)) (omega arith)
+
+told-taken : (n v k : ℕ) → n ≤ 22 → 256 + k ≡ told n v → (n ≡ 0) × (k ≡ v)
+told-taken zero v k h e = (refl, omega (arith, e))
+told-taken (suc n) v k h e = absurd (omega (arith, e))
+
+pub stored-wrote : (cs ks os ds ms old new : List ℕ) (k : ℕ) → Stored cs ks os ds ms old new (256 + k) → Wrote cs ks os ds ms old new 0 × (k ≡ size (length cs) (length ks))
+stored-wrote cs ks os ds ms old new k s =
+    let p = told-taken _ _ k (write-small cs ks os ds ms (length old)) (s .answer) in
+    (record { answer = sym (p .0); bytes = s .bytes }, p .1 ∙ length-written cs ks os ds ms (length old) (p .0))
