@@ -35,13 +35,13 @@ pub input-sized : (b : List ℕ) → Sized (inputText b)
 input-sized b = on (ltb 65536 (length b)) (λ q. rw q (refused-sized 20)) (λ q. rw q (text-sized b))
 
 -- ---- number and bytes are the whole answer
-module _ (text old new : List ℕ) where
-  pub one-answer : (r : Printed) → 0 < length text → Wrote text old new r → r ≡ cond (shortFor text old) (Refused 22) (Bytes (length text))
-  one-answer (Bytes n) h w =
+module _ (text old new : List ℕ) (s : Sized text) where
+  pub one-answer : (r : Printed) → Wrote text old new r → r ≡ cond (shortFor text old) (Refused 22) (Bytes (length text))
+  one-answer (Bytes n) w =
       on (shortFor text old)
       (λ q. let e : 0 ≡ 22 = rw q at (w .number) in absurd (omega (arith, e)))
       (λ q. rw q (ap Bytes (rw q at (w .written))))
-  one-answer (Refused n) h w =
+  one-answer (Refused n) w =
       on (shortFor text old)
       (λ q. rw q (ap Refused (rw q at (w .number))))
-      (λ q. let e : 0 ≡ length text = rw q at (w .written) in absurd (omega (arith, e)))
+      (λ q. let e : 0 ≡ length text = rw q at (w .written) in absurd (omega (arith, e, s .some)))

@@ -100,7 +100,8 @@ printLength text old = cond (shortFor text old) 0 (length text)
 abbrev pub printedIn : List ℕ → List ℕ → List ℕ
 printedIn text old = cond (shortFor text old) old (text ++ drop (length text) old)
 
--- what writing a text does: its answer, and every byte of the output. Since no text is empty, number and bytes leave one answer (`one-answer` in ../proofs/Texts.antt)
+-- what writing a text does: its answer, by number and bytes, and every byte of the output. No text is empty, so that
+-- number and bytes are those of one answer only (`one-answer` in proofs/Texts.antt)
 pub record Wrote (text old new : List ℕ) (r : Printed) : Type 0 where
   pub number : printedNumber r ≡ printRefusal text old
   pub written : printedBytes r ≡ printLength text old
