@@ -18,7 +18,7 @@ abbrev common : ℕ → List Event
 common t = quiet t ++ (returned t 1 ∷ fee t 1 ∷ bill t 9 ∷ [])
 
 -- 64 open items of day 0
-abbrev pub crowd : List Event
+abbrev crowd : List Event
 crowd = times 64 (fee 0 1 ∷ [])
 
 -- payments of 990,000,000,000
