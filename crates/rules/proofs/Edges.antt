@@ -18,7 +18,7 @@ abbrev common : ℕ → List Event
 common t = quiet t ++ (returned t 1 ∷ fee t 1 ∷ bill t 9 ∷ [])
 
 -- 64 open items of day 0
-abbrev pub crowd : List Event
+abbrev crowd : List Event
 crowd = times 64 (fee 0 1 ∷ [])
 
 -- payments of 990,000,000,000
@@ -144,12 +144,14 @@ receipts =
     ∷ shows "no receipt for a bill" receipt (payment 0 9 ∷ bill 0 9 ∷ []) 0
     ∷ shows "no receipt for a deposit" receipt (asked 0 9 ∷ paid 0 9 ∷ []) 0
     ∷ shows "a returned payment still counts" receipt (payment 0 9 ∷ returned 0 1 ∷ payment 0 9 ∷ []) 2
+    ∷ shows "a receipt after closing" receipt (payment 0 9 ∷ close 0 ∷ payment 0 9 ∷ []) 2
     ∷ ends "returned twice" (payment 0 9 ∷ returned 0 1 ∷ returned 0 1 ∷ []) 6
     ∷ ends "each returned once" (payment 0 9 ∷ payment 0 9 ∷ returned 0 1 ∷ returned 0 2 ∷ []) 0
     ∷ ends "an older one after a newer" (payment 0 9 ∷ payment 0 9 ∷ returned 0 2 ∷ returned 0 1 ∷ []) 0
     ∷ ends "both neighbours of a returned one" (times 3 (payment 0 9 ∷ []) ++ (returned 0 2 ∷ returned 0 1 ∷ returned 0 3 ∷ [])) 0
     ∷ ends "returned twice, another between" (payment 0 9 ∷ payment 0 9 ∷ returned 0 1 ∷ returned 0 2 ∷ returned 0 1 ∷ []) 6
     ∷ ends "a receipt not given yet" (payment 0 9 ∷ returned 0 2 ∷ []) 6
+    ∷ ends "nothing but a payment has a receipt" (asked 0 9 ∷ paid 0 9 ∷ bill 0 9 ∷ fee 0 1 ∷ certificate 0 9 ∷ call 0 ∷ returned 0 1 ∷ []) 6
     ∷ ends "the oldest of 32" (times 32 (payment 0 9 ∷ []) ++ (returned 0 1 ∷ [])) 0
     ∷ ends "32 returned, the newest first" (times 33 (payment 0 9 ∷ []) ++ (returned 0 33 ∷ returned 0 32 ∷ returned 0 3 ∷ returned 0 2 ∷ [])) 0
     ∷ ends "past the newest 32" (times 33 (payment 0 9 ∷ []) ++ (returned 0 1 ∷ [])) 6
@@ -159,6 +161,7 @@ receipts =
     ∷ shows "the amount of the receipt, the oldest" owed (payment 0 100 ∷ payment 0 200 ∷ payment 0 300 ∷ payout 0 600 ∷ returned 0 1 ∷ []) 2600
     ∷ shows "the amount of the receipt, between" owed (payment 0 100 ∷ payment 0 200 ∷ payment 0 300 ∷ payout 0 600 ∷ returned 0 2 ∷ []) 2700
     ∷ shows "the amount of the receipt, the newest" owed (payment 0 100 ∷ payment 0 200 ∷ payment 0 300 ∷ payout 0 600 ∷ returned 0 3 ∷ []) 2800
+    ∷ shows "the largest payment, returned" owed (payment 0 10000000000 ∷ payout 0 10000000000 ∷ returned 0 1 ∷ []) 10000002500
     ∷ []
 
 abbrev deposits : List Case
@@ -284,6 +287,7 @@ notices =
     ∷ ends "a deposit moved leaves it" (full ++ (bill 300 6000 ∷ notice 360 ∷ moved 365 ∷ call 365 ∷ cut 366 ∷ [])) 0
     ∷ ends "used up by a cut" (d ++ (arrangement 26 2 ∷ reconnection 26 0 ∷ call 27 ∷ cut 28 ∷ [])) 12
     ∷ ends "used up, so a new one may follow" (d ++ (arrangement 26 2 ∷ reconnection 26 0 ∷ notice 26 ∷ [])) 0
+    ∷ ends "a second cut, by a second notice" (d ++ (arrangement 26 2 ∷ reconnection 26 0 ∷ notice 56 ∷ call 60 ∷ cut 61 ∷ [])) 0
     ∷ ends "a new notice after 20 days has its own days" (b ++ (notice 41 ∷ call 44 ∷ cut 45 ∷ [])) 12
     ∷ ends "a new notice's days" (b ++ (notice 41 ∷ call 45 ∷ cut 46 ∷ [])) 0
     ∷ shows "live on its first day" (live 20) b 1

@@ -4,7 +4,7 @@ use mathlib.Core.List.{List, [], _∷_, _++_}
 use Rattle.rules.specs.declared.Event.{Event}
 use Rattle.rules.proofs.Events.{event, bill, payment, returned, fee, asked, paid, moved, certificate, arrangement, notice, call, cut, reconnection, close, times, Case, ends}
 use Rattle.rules.proofs.Paper.{b, d}
-use Rattle.rules.proofs.Edges.{full, crowd, rich, settled}
+use Rattle.rules.proofs.Edges.{full, rich, settled}
 
 -- C at the limit, and 64 open items of day 0: rows 18 and 19 refuse every new item
 abbrev brim : List Event

@@ -34,7 +34,6 @@ pub total-since : (k : ℕ) (p : Event → Bool) (e : Event) (h : History)
 total-since k p e h = on (p e) (λ q. rw q (total-grows k [])) (λ q. rw q (total-grows k (e ∷ since p h)))
 
 -- ---- one more event
-
 pub newest-since : (k : ℕ) (p : Event → Bool) (e : Event) (h : History)
     → newest k (since p (e ∷ h)) ≡ cond (p e) 0 (cond (is k e) (e .amount) (newest k (since p h)))
 newest-since k p e h = on (p e) (λ q. rw q) (λ q. rw q)
