@@ -86,12 +86,11 @@ written-again b room z h =
 pub front : (n : ℕ) (new old : List ℕ) → length new ≡ n → take n (after 0 new old) ≡ new
 front n new old e = rw (← e) (take-append-seam new (drop (length new) old))
 
--- what was written of the list that was read
-rewrote : (b cs ks os ds ms old cs2 ks2 os2 ds2 ms2 new : List ℕ) (n : ℕ) → Bytes b → bookRefusal b ≡ 0 → length b ≤ length old
-    → Left 0 (decode b) cs ks os ds ms cs2 ks2 os2 ds2 ms2
-    → Wrote (take (accounts b) cs2) (take (records b) ks2) (take (records b) os2) (take (records b) ds2) (take (records b) ms2) old new n
-    → (n ≡ 0) × (new ≡ after 0 b old)
-rewrote b cs ks os ds ms old cs2 ks2 os2 ds2 ms2 new n t z h m w =
+pub book-back : (b : List ℕ) → Bytes b → BookBack b
+book-back b t cs ks os ds ms cs2 ks2 os2 ds2 ms2 old new n given w h =
+    let y = sym (given .answer) in
+    let z = read-facts b (length cs) (length ks) (length os) (length ds) (length ms) y .refusal in
+    let m : Left 0 (decode b) cs ks os ds ms cs2 ks2 os2 ds2 ms2 = rw y at (given .memory) in
     let l = decode b in
     let es = flat l in
     let na : length (map length l) ≡ accounts b = ap length (decode-parts b z .0) ∙ length-counts (accounts b) 8 b in
@@ -105,9 +104,3 @@ rewrote b cs ks os ds ms old cs2 ks2 os2 ds2 ms2 new n t z h m w =
     let g = written-again b (length old) z h in
     let s = ap encode (lent-list l) ∙ encode-decode b t z in
     (w2 .answer ∙ g, w2 .bytes ∙ ap (λ k. after k (encode (lentList (map length l) (kindsOf es) (optionsOf es) (daysOf es) (amountsOf es))) old) g ∙ ap (λ x. after 0 x old) s)
-
-pub book-back : (b : List ℕ) → Bytes b → BookBack b
-book-back b t cs ks os ds ms cs2 ks2 os2 ds2 ms2 old new n g w h =
-    let z = sym (g .answer) in
-    let f = read-facts b (length cs) (length ks) (length os) (length ds) (length ms) z in
-    rewrote b cs ks os ds ms old cs2 ks2 os2 ds2 ms2 new n t (f .refusal) h (rw z at (g .memory)) w
