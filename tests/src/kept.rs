@@ -121,3 +121,23 @@ impl Accounts {
         missing.map(|(_, words)| words.to_string()).collect()
     }
 }
+
+#[cfg(test)]
+mod tests {
+    use super::*;
+
+    #[test]
+    fn turned_bits_are_to_be_seen_and_not_to_be_seen() {
+        let reached = |seen, unseen| {
+            let accounts = Accounts {
+                seen,
+                unseen,
+                ..Accounts::default()
+            };
+            accounts.not_reached().len()
+        };
+        assert_eq!(reached(0, 0), 2);
+        assert_eq!((reached(1, 0), reached(0, 1)), (1, 1));
+        assert_eq!(reached(1, 1), 0);
+    }
+}

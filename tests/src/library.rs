@@ -120,3 +120,54 @@ pub fn compare_history(book: &Book, account: usize) -> Option<String> {
     }
     Some(text)
 }
+
+#[cfg(test)]
+mod tests {
+    use super::*;
+    use crate::books;
+    use crate::make::{bill, cut, payment};
+
+    fn book() -> Vec<u8> {
+        tools::book::encode(&[vec![bill(100, 10_000), payment(131, 4_000), cut(131)]])
+    }
+
+    const ANY_LENGTH: [Lent; 5] = [
+        Lent::Exact,
+        Lent::Longer(1),
+        Lent::Longer(200),
+        Lent::Shorter(1),
+        Lent::Shorter(60),
+    ];
+
+    #[test]
+    fn a_text_that_differs_is_seen() {
+        let expected = peer::report(&book());
+        assert_eq!(compare_report(&book(), &expected), None);
+        let mut other = expected.clone();
+        other[40] ^= 1;
+        assert!(compare_report(&book(), &other).is_some());
+        assert!(compare_report(&book(), &expected[1..]).is_some());
+    }
+
+    #[test]
+    fn memory_that_differs_is_seen() {
+        let expected = peer::report(&book());
+        for lent in ANY_LENGTH {
+            assert_eq!(compare_lent(&book(), &expected, lent), None);
+        }
+        // A byte more: as much memory as the text takes would be too short, and a longer one has another tail.
+        let longer = [&expected[..], b"x"].concat();
+        for lent in [Lent::Exact, Lent::Longer(7), Lent::Shorter(1)] {
+            assert!(compare_lent(&book(), &longer, lent).is_some(), "{lent:?}");
+        }
+    }
+
+    #[test]
+    fn an_answer_that_differs_is_seen() {
+        let good = (0..40).map(|at| books::book(1, at)).find(Book::is_good);
+        let mut good = good.unwrap();
+        assert_eq!(compare_history(&good, 0), None);
+        good.histories[0].posted.answers[0] ^= 1;
+        assert!(compare_history(&good, 0).is_some());
+    }
+}

@@ -189,7 +189,9 @@ fn a_bad_book_prints_its_number() {
 #[test]
 fn a_longer_file_is_refused() {
     let longest = tools::book::encode(&[vec![bill(0, 1); 4_095]]);
-    assert_eq!(longest.len(), book::LONGEST_FILE);
+    assert_eq!(longest.len(), 65_536);
+    assert_eq!(standing(&longest), report(&longest));
+    assert!(standing(&longest).ends_with(b" 64 on 4031\n"));
     let longer = tools::book::encode(&[vec![call(0); 4_096]]);
     assert_eq!(standing(&longer), b"book refused 20\n");
     assert!(report(&longer).starts_with(b"account"));
