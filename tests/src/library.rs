@@ -70,17 +70,23 @@ pub fn compare_lent(book: &[u8], expected: &[u8], lent: Lent) -> Option<String> 
     };
     let mut out = vec![FILL; length];
     let answer = core::report_into(book, &mut out);
-    let mut wanted = vec![FILL; length];
-    let mut wanted_answer = None;
-    if expected.len() <= length {
-        wanted[..expected.len()].copy_from_slice(expected);
-        wanted_answer = Some(expected.len());
-    }
-    let fine = answer == wanted_answer && out == wanted;
-    (!fine).then(|| {
-        let shown = show::bytes(book);
-        format!("{shown}  {length} bytes lent ({lent:?}), answer {answer:?}, not {wanted_answer:?}")
+    let wanted = wanted(expected, length);
+    (wanted != (answer, out)).then(|| {
+        let (shown, wanted) = (show::bytes(book), wanted.0);
+        format!("{shown}  {length} bytes lent ({lent:?}), answer {answer:?}, not {wanted:?}")
     })
+}
+
+/// The answer, and what lies in memory of a length after it.
+fn wanted(text: &[u8], length: usize) -> (Option<usize>, Vec<u8>) {
+    let mut memory = vec![FILL; length];
+    match memory.get_mut(..text.len()) {
+        Some(place) => {
+            place.copy_from_slice(text);
+            (Some(text.len()), memory)
+        }
+        None => (None, memory),
+    }
 }
 
 /// The number and what is owed after it, for each event.
@@ -147,6 +153,13 @@ mod tests {
         other[40] ^= 1;
         assert!(compare_report(&book(), &other).is_some());
         assert!(compare_report(&book(), &expected[1..]).is_some());
+    }
+
+    #[test]
+    fn a_text_is_wanted_where_it_fits() {
+        assert_eq!(wanted(b"ab", 1), (None, vec![FILL]));
+        assert_eq!(wanted(b"ab", 2), (Some(2), b"ab".to_vec()));
+        assert_eq!(wanted(b"ab", 3), (Some(2), vec![b'a', b'b', FILL]));
     }
 
     #[test]

@@ -53,6 +53,10 @@ pub struct Kept {
 }
 
 pub fn keep(events: &[Event], asked: Asked) -> Kept {
+    keep_by(events, asked, |memory, event| memory.account.post(event))
+}
+
+fn keep_by(events: &[Event], asked: Asked, post: fn(&mut Surrounded, Event) -> Answer) -> Kept {
     let mut memory = Surrounded::by(Account::fresh());
     let mut kept = Kept {
         replies: Vec::with_capacity(events.len()),
@@ -64,7 +68,7 @@ pub fn keep(events: &[Event], asked: Asked) -> Kept {
     };
     for (at, &event) in events.iter().enumerate() {
         let before = memory.account.clone();
-        let answer = memory.account.post(event);
+        let answer = post(&mut memory, event);
         let account = &memory.account;
         kept.replies.push((answer, account.owed()));
         if matches!(answer, Answer::Refused(_)) && kept.changed.is_none() {
@@ -110,5 +114,24 @@ mod tests {
         assert_eq!(end.replies, expected);
         assert_eq!(each.told.len(), 3);
         assert_eq!(end.told, each.told[2..]);
+    }
+
+    #[test]
+    fn a_posting_that_touches_too_much_is_seen() {
+        let events = [bill(100, 10_000), cut(101)];
+        let right = keep(&events, Asked::AtTheEnd);
+        assert!(right.changed.is_none() && !right.is_touched_around);
+        let touching = keep_by(&events, Asked::AtTheEnd, |memory, event| {
+            memory.behind[7] = 0;
+            memory.account.post(event)
+        });
+        assert!(touching.changed.is_none() && touching.is_touched_around);
+        // The refused cut is posted as a payment, and so changes the account.
+        let changing = keep_by(&events, Asked::AtTheEnd, |memory, event| {
+            let answer = memory.account.post(event);
+            memory.account.post(payment(event.day, 1));
+            answer
+        });
+        assert_eq!(changing.changed.map(|(at, _)| at), Some(1));
     }
 }
