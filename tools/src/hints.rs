@@ -1,7 +1,11 @@
 //! One line beside a refusal: the days that its rule looks at, and what the account's accepted events have there.
 //! That an event is refused, and by which number, is the core's to say; a hint only points at what to look for.
+//!
+//! The days and counts that hints tell have a name each, so that a test holds them against the core at all their ends
+//! (tools/tests/hints.rs).
 use crate::event::Event;
 use crate::words::day;
+use std::fmt;
 
 const PAYMENT: u8 = 2;
 const RETURNED_PAYMENT: u8 = 3;
@@ -9,6 +13,68 @@ const CERTIFICATE: u8 = 9;
 const ARRANGEMENT: u8 = 11;
 const FINAL_NOTICE: u8 = 12;
 const CALL: u8 = 13;
+
+/// So many of the newest payments can be returned.
+pub const RETURNABLE: u64 = 32;
+/// A charge is in arrears so many days after its own.
+pub const IN_ARREARS_AFTER: u32 = 20;
+/// A deposit is earned when it was full for so many days, and looks back on as many.
+pub const DEPOSIT_DAYS: u32 = 365;
+/// So many final notices in those days are not too many.
+pub const DEPOSIT_NOTICES: usize = 2;
+
+/// Days from the first to the last, both among them.
+#[derive(Clone, Copy, Debug, PartialEq, Eq)]
+pub struct Days {
+    pub first: u32,
+    pub last: u32,
+}
+
+impl Days {
+    /// Those that lie `least` to `most` days before a day; none where all of them would lie before day 0.
+    fn before(day: u32, least: u32, most: u32) -> Option<Days> {
+        let last = day.checked_sub(least)?;
+        let first = day.saturating_sub(most);
+        Some(Days { first, last })
+    }
+}
+
+impl fmt::Display for Days {
+    fn fmt(&self, out: &mut fmt::Formatter) -> fmt::Result {
+        write!(out, "{} to {}", day(self.first), day(self.last))
+    }
+}
+
+/// A disconnection on day t wants a final notice of these days.
+pub fn notice_days(t: u32) -> Option<Days> {
+    Days::before(t, 5, 20)
+}
+
+/// A disconnection on day t wants a call on one of these days.
+pub fn call_days(t: u32) -> Option<Days> {
+    Days::before(t, 1, 3)
+}
+
+/// What is unpaid of the charges of these days is in arrears on day t.
+pub fn arrears_days(t: u32) -> Option<Days> {
+    Days::before(t, IN_ARREARS_AFTER, t)
+}
+
+/// A deposit that is moved on day t has to become full on one of these days.
+pub fn full_days(t: u32) -> Option<Days> {
+    Days::before(t, DEPOSIT_DAYS, t)
+}
+
+/// The final notices and disconnections of these days speak against moving a deposit on day t.
+pub fn conduct_days(t: u32) -> Days {
+    let first = t.saturating_sub(DEPOSIT_DAYS - 1);
+    Days { first, last: t }
+}
+
+/// The last day on which a certificate is live.
+pub fn certificate_end(certificate: &Event) -> u64 {
+    u64::from(certificate.day) + certificate.amount - 1
+}
 
 /// The hint for an event that the number refuses; `accepted` are the account's events that were accepted before it.
 pub fn hint(number: u8, event: &Event, accepted: &[Event]) -> Option<String> {
@@ -21,8 +87,8 @@ pub fn hint(number: u8, event: &Event, accepted: &[Event]) -> Option<String> {
         8 => Some(deposit(t)),
         10 | 16 => Some(arrears(t)),
         11 => newest(FINAL_NOTICE, accepted).map(|notice| format!("it is of {}", day(notice.day))),
-        12 => Some(notice(t, accepted)),
-        13 => Some(call(t, accepted)),
+        12 => notice(t, accepted),
+        13 => call(t, accepted),
         14 => newest(ARRANGEMENT, accepted).map(|arrangement| {
             let parts = arrangement.option;
             format!("it was made on {} in {parts} parts", day(arrangement.day))
@@ -50,47 +116,43 @@ fn receipt(receipt: u64, accepted: &[Event]) -> String {
     if receipt > payments as u64 {
         return format!("the payments up to here have receipts up to {payments}");
     }
-    format!("only the newest 32 of {payments} payments can be returned")
+    format!("only the newest {RETURNABLE} of {payments} payments can be returned")
 }
 
 fn deposit(t: u32) -> String {
-    let full = match t.checked_sub(365) {
-        Some(latest) => format!("since {} at the latest", day(latest)),
-        None => "for 365 days".to_string(),
+    let full = match full_days(t) {
+        Some(days) => format!("since {} at the latest", day(days.last)),
+        None => format!("for {DEPOSIT_DAYS} days"),
     };
-    let from = day(t.saturating_sub(364));
-    format!("it has to be full {full}, with at most two final notices and no disconnection from {from} on")
+    let from = day(conduct_days(t).first);
+    format!(
+        "it has to be full {full}, with at most {DEPOSIT_NOTICES} final notices and no disconnection from {from} on"
+    )
 }
 
 fn arrears(t: u32) -> String {
-    match t.checked_sub(20) {
-        Some(latest) => format!(
+    match arrears_days(t) {
+        Some(days) => format!(
             "in arrears is what is unpaid of charges up to {}",
-            day(latest)
+            day(days.last)
         ),
-        None => "nothing is in arrears before day 20".to_string(),
+        None => format!("nothing is in arrears before day {IN_ARREARS_AFTER}"),
     }
 }
 
-fn notice(t: u32, accepted: &[Event]) -> String {
-    let Some(latest) = t.checked_sub(5) else {
-        return "a disconnection is not possible before day 5".to_string();
-    };
+fn notice(t: u32, accepted: &[Event]) -> Option<String> {
+    let days = notice_days(t)?;
     let last = match newest(FINAL_NOTICE, accepted) {
         Some(notice) => format!("the last one is of {}", day(notice.day)),
         None => "there was none".to_string(),
     };
-    let earliest = day(t.saturating_sub(20));
-    format!(
-        "it has to be of {earliest} to {}, not used and not lapsed; {last}",
-        day(latest)
-    )
+    Some(format!(
+        "it has to be of {days}, not used and not lapsed; {last}"
+    ))
 }
 
-fn call(t: u32, accepted: &[Event]) -> String {
-    let Some(latest) = t.checked_sub(1) else {
-        return "a disconnection is not possible on day 0".to_string();
-    };
+fn call(t: u32, accepted: &[Event]) -> Option<String> {
+    let days = call_days(t)?;
     // A call on the day of the disconnection does not count, so it is not the one to show.
     let before = accepted
         .iter()
@@ -100,22 +162,20 @@ fn call(t: u32, accepted: &[Event]) -> String {
         Some(call) => format!("the last before is of {}", day(call.day)),
         None => "there was none before".to_string(),
     };
-    let earliest = day(t.saturating_sub(3));
-    format!("it has to be of {earliest} to {}; {last}", day(latest))
+    Some(format!("it has to be of {days}; {last}"))
 }
 
 /// The certificate that runs longest.
 fn certificate(t: u32, accepted: &[Event]) -> Option<String> {
-    let end = |event: &Event| u64::from(event.day) + event.amount;
     let longest = accepted
         .iter()
-        .filter(|event| event.kind == CERTIFICATE && end(event) > u64::from(t))
-        .max_by_key(|event| end(event))?;
-    let last = u32::try_from(end(longest) - 1).ok()?;
+        .filter(|event| event.kind == CERTIFICATE && certificate_end(event) >= u64::from(t))
+        .max_by_key(|event| certificate_end(event))?;
+    let end = u32::try_from(certificate_end(longest)).ok()?;
     Some(format!(
         "it is of {} and runs to {}",
         day(longest.day),
-        day(last)
+        day(end)
     ))
 }
 
@@ -162,6 +222,24 @@ mod tests {
             cut(15, 25, &accepted),
             "it is of day 21 (2000-01-22) and runs to day 50 (2000-02-20)"
         );
+        let notices = [
+            Event::of(FINAL_NOTICE, 20, 0),
+            Event::of(FINAL_NOTICE, 50, 0),
+        ];
+        let second = hint(11, &Event::of(FINAL_NOTICE, 60, 0), &notices);
+        assert_eq!(second.as_deref(), Some("it is of day 50 (2000-02-20)"));
+    }
+
+    #[test]
+    fn a_deposit_shows_since_when_it_has_to_be_full() {
+        let moved = |day| hint(8, &Event::of(7, day, 0), &[]).unwrap();
+        assert_eq!(
+            moved(400),
+            "it has to be full since day 35 (2000-02-05) at the latest, \
+             with at most 2 final notices and no disconnection from day 36 (2000-02-06) on"
+        );
+        assert!(moved(364).starts_with("it has to be full for 365 days, with"));
+        assert!(moved(364).ends_with("from day 0 (2000-01-01) on"));
     }
 
     #[test]
@@ -187,17 +265,19 @@ mod tests {
     }
 
     #[test]
-    fn no_hint_reaches_before_the_first_day_or_past_the_last() {
-        let accepted = [
-            Event::of(FINAL_NOTICE, 0, 0),
-            Event::of(CERTIFICATE, 73_048, 180),
-            Event::of(CERTIFICATE, u32::MAX, u64::MAX / 2),
-        ];
-        for number in 0..=22 {
-            for day in [0, 1, 4, 19, 364, 365, u32::MAX] {
-                hint(number, &Event::of(14, day, 0), &accepted);
-                hint(number, &Event::of(14, day, 0), &[]);
+    fn no_days_lie_before_the_first_or_past_the_event() {
+        let days = [notice_days, call_days, arrears_days, full_days, |t| {
+            Some(conduct_days(t))
+        }];
+        for t in [0, 1, 4, 5, 19, 20, 364, 365, 73_048, u32::MAX] {
+            for days in days.iter().filter_map(|days| days(t)) {
+                assert!(days.first <= days.last && days.last <= t, "{days:?} of {t}");
             }
         }
+        // Where the first of them would lie before day 0, and where all of them would.
+        assert_eq!(notice_days(5), Some(Days { first: 0, last: 0 }));
+        assert_eq!(notice_days(4), None);
+        assert_eq!(arrears(19), "nothing is in arrears before day 20");
+        assert_eq!(conduct_days(5), Days { first: 0, last: 5 });
     }
 }

@@ -1,0 +1,228 @@
+//! The days and counts that hints tell, against the core: an event is posted after histories in which what the hint speaks of
+//! lies on each day in turn, and is refused by the hint's number exactly on the days that the hint says.
+use std::ops::RangeInclusive;
+use tools::core::{Account, Answer};
+use tools::event::Event;
+use tools::hints::{
+    arrears_days, call_days, certificate_end, conduct_days, full_days, hint, notice_days, Days,
+    DEPOSIT_NOTICES, RETURNABLE,
+};
+use tools::words::day;
+
+fn bill(day: u32, amount: u64) -> Event {
+    Event::of(1, day, amount)
+}
+
+fn payment(day: u32, amount: u64) -> Event {
+    Event::of(2, day, amount)
+}
+
+fn returned(day: u32, receipt: u64) -> Event {
+    Event::of(3, day, receipt)
+}
+
+/// A deposit that becomes full on a day.
+fn deposit(day: u32) -> [Event; 2] {
+    [Event::of(5, day, 10_000), Event::of(6, day, 10_000)]
+}
+
+fn moved(day: u32) -> Event {
+    Event::of(7, day, 0)
+}
+
+fn certificate(day: u32, days: u64) -> Event {
+    Event::of(9, day, days)
+}
+
+fn notice(day: u32) -> Event {
+    Event::of(12, day, 0)
+}
+
+fn call(day: u32) -> Event {
+    Event::of(13, day, 0)
+}
+
+fn cut(day: u32) -> Event {
+    Event::of(14, day, 0)
+}
+
+fn reconnection(day: u32) -> Event {
+    Event::of(15, day, 0)
+}
+
+/// A lawful disconnection on a day.
+fn lawful(day: u32) -> [Event; 3] {
+    [notice(day - 5), call(day - 1), cut(day)]
+}
+
+/// Whether the number refuses the last event, posted after the others, which have to be accepted.
+fn refused_by(number: u8, events: &[Event]) -> bool {
+    let (&last, before) = events.split_last().unwrap();
+    let mut account = Account::fresh();
+    for &event in before {
+        let answer = account.post(event);
+        assert!(
+            matches!(answer, Answer::Accepted(_)),
+            "{event:?} {answer:?}"
+        );
+    }
+    match account.post(last) {
+        Answer::Accepted(_) => false,
+        answer => {
+            assert_eq!(answer, Answer::Refused(number), "{events:?}");
+            true
+        }
+    }
+}
+
+/// The days for which the number does not refuse the last event of a history.
+fn passing(number: u8, days: RangeInclusive<u32>, history: impl Fn(u32) -> Vec<Event>) -> Vec<u32> {
+    days.filter(|&day| !refused_by(number, &history(day)))
+        .collect()
+}
+
+fn all(days: Option<Days>) -> Vec<u32> {
+    days.map_or(Vec::new(), |days| (days.first..=days.last).collect())
+}
+
+#[test]
+fn a_disconnection_wants_a_notice_of_these_days() {
+    let t = 200;
+    let noticed_on = |n| match n < t {
+        true => vec![bill(0, 60_000), notice(n), call(t - 1), cut(t)],
+        false => vec![bill(0, 60_000), call(t - 1), notice(n), cut(t)],
+    };
+    assert_eq!(passing(12, 20..=t, noticed_on), all(notice_days(t)));
+}
+
+#[test]
+fn a_disconnection_wants_a_call_on_one_of_these_days() {
+    let t = 200;
+    let called_on = |c| vec![bill(0, 60_000), notice(t - 20), call(c), cut(t)];
+    assert_eq!(passing(13, t - 20..=t, called_on), all(call_days(t)));
+}
+
+#[test]
+fn charges_of_these_days_are_in_arrears() {
+    for t in [0, 19, 20, 21, 200] {
+        let billed_on = |d| vec![bill(d, 60_000), notice(t)];
+        assert_eq!(passing(10, 0..=t, billed_on), all(arrears_days(t)));
+    }
+}
+
+#[test]
+fn a_reconnection_wants_no_charges_of_these_days() {
+    let t = 100;
+    let paid_up = [&[bill(0, 6_000)], &lawful(25)[..], &[payment(25, 7_500)]].concat();
+    let billed_on = |d| [&paid_up[..], &[bill(d, 1), reconnection(t)]].concat();
+    let last = arrears_days(t).unwrap().last;
+    let after: Vec<u32> = (last + 1..=t).collect();
+    assert_eq!(passing(16, 25..=t, billed_on), after);
+}
+
+#[test]
+fn a_deposit_has_to_be_full_on_one_of_these_days() {
+    for t in [0, 364, 365, 366, 500] {
+        let full_on = |f| [&deposit(f)[..], &[moved(t)]].concat();
+        assert_eq!(passing(8, 0..=t, full_on), all(full_days(t)));
+    }
+}
+
+/// A debt, a deposit that is full from day 0 on, and then other events.
+fn with_deposit(events: &[Event]) -> Vec<Event> {
+    [&deposit(0)[..], &[bill(0, 60_000)], events].concat()
+}
+
+/// So many final notices, each as soon after the one before as can be.
+fn notices(first: u32, count: usize) -> Vec<Event> {
+    (0..count as u32).map(|k| notice(first + 21 * k)).collect()
+}
+
+#[test]
+fn so_many_notices_in_these_days_are_too_many() {
+    let t = 1_000;
+    let days = conduct_days(t);
+    for count in 1..=DEPOSIT_NOTICES + 2 {
+        let first = days.last - 21 * (count as u32 - 1);
+        let events = [notices(first, count), vec![moved(t)]].concat();
+        let refused = refused_by(8, &with_deposit(&events));
+        assert_eq!(refused, count > DEPOSIT_NOTICES, "{count}");
+    }
+    // One too many, if the oldest of them lies in these days.
+    let oldest_on = |n| {
+        let events = [notices(n, DEPOSIT_NOTICES + 1), vec![moved(t)]].concat();
+        with_deposit(&events)
+    };
+    let before: Vec<u32> = (20..days.first).collect();
+    assert_eq!(passing(8, 20..=days.first + 50, oldest_on), before);
+}
+
+#[test]
+fn a_disconnection_in_these_days_is_one_too_many() {
+    let t = 1_000;
+    let days = conduct_days(t);
+    let cut_on = |c| with_deposit(&[&lawful(c)[..], &[moved(t)]].concat());
+    let before: Vec<u32> = (25..days.first).collect();
+    assert_eq!(passing(8, 25..=days.last, cut_on), before);
+}
+
+#[test]
+fn so_many_of_the_newest_payments_can_be_returned() {
+    for count in [
+        0,
+        1,
+        RETURNABLE - 1,
+        RETURNABLE,
+        RETURNABLE + 1,
+        3 * RETURNABLE,
+    ] {
+        let payments = vec![payment(0, 100); count as usize];
+        for receipt in 1..=count + 2 {
+            let events = [&payments[..], &[returned(0, receipt)]].concat();
+            let is_newest = receipt <= count && count - receipt < RETURNABLE;
+            assert_eq!(refused_by(6, &events), !is_newest, "{receipt} of {count}");
+            let told = hint(6, &returned(0, receipt), &payments).unwrap();
+            assert_eq!(told.contains("receipts up to"), receipt > count);
+        }
+    }
+}
+
+#[test]
+fn a_payment_is_returned_once() {
+    let events = [payment(0, 100), returned(7, 1), returned(8, 1)];
+    assert!(refused_by(6, &events));
+    let told = hint(6, &events[2], &events[..2]);
+    assert_eq!(told, Some(format!("it was returned on {}", day(7))));
+}
+
+#[test]
+fn a_certificate_is_live_to_its_end() {
+    let t = 200;
+    for days in [1, 2, 30, 179, 180] {
+        let certified_on = |c| {
+            let mut events = vec![
+                bill(0, 60_000),
+                notice(180),
+                call(199),
+                certificate(c, days),
+            ];
+            events.sort_by_key(|event| event.day);
+            events.push(cut(t));
+            events
+        };
+        let over = |c: &u32| certificate_end(&certificate(*c, days)) < u64::from(t);
+        let before: Vec<u32> = (0..=t).filter(over).collect();
+        assert_eq!(passing(15, 0..=t, certified_on), before, "{days} days");
+    }
+}
+
+#[test]
+fn the_last_accepted_event_has_the_first_day_of_the_next() {
+    for last in [1, 100, 73_048] {
+        let early = call(last - 1);
+        assert!(refused_by(2, &[call(last), early]));
+        assert!(!refused_by(2, &[call(last), call(last)]));
+        let told = hint(2, &early, &[call(last)]).unwrap();
+        assert!(told.ends_with(&day(last)));
+    }
+}
