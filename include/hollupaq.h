@@ -181,6 +181,31 @@ uint64_t hollupaq_open_count(const uint64_t *account, size_t words);
 uint64_t hollupaq_open_day(const uint64_t *account, size_t words, size_t i);
 uint64_t hollupaq_open_unpaid(const uint64_t *account, size_t words, size_t i);
 
+/*
+ * What the account says of a day: the arrears in cents, which are the unpaid
+ * parts of the items that are 20 days old; and whether a payment arrangement
+ * is in force, a final notice is live, a medical certificate is live.
+ *
+ * Returns HOLLUPAQ_ACCEPTED and the cents added to it, or HOLLUPAQ_ACCEPTED
+ * and 1 for yes, HOLLUPAQ_ACCEPTED alone for no. Returns a number below it
+ * where the day is refused, as that of an event is: 1 where it is after the
+ * last day (73048), 2 where it is before the last accepted event, and 0 where
+ * the memory is no account. hollupaq_accepted and hollupaq_told take such an
+ * answer apart.
+ */
+uint64_t hollupaq_arrears(const uint64_t *account, size_t words, uint32_t day);
+uint64_t hollupaq_in_force(const uint64_t *account, size_t words, uint32_t day);
+uint64_t hollupaq_notice_live(const uint64_t *account, size_t words,
+                              uint32_t day);
+uint64_t hollupaq_certified(const uint64_t *account, size_t words,
+                            uint32_t day);
+
+/* What an answer tells for a day, 0 where the day is refused. */
+static inline uint64_t hollupaq_told(uint64_t answer)
+{
+    return answer >= HOLLUPAQ_ACCEPTED ? answer - HOLLUPAQ_ACCEPTED : 0;
+}
+
 #ifdef __cplusplus
 }
 #endif

@@ -31,8 +31,9 @@ use Rattle.account.specs.Post.{answerTo, wordsAfter}
 use Rattle.questions.specs.Questions.{owedIn}
 use Rattle.claim.specs.Run.{answers}
 use Rattle.claim.specs.Claim.{freshWords}
-use Rattle.claim.proofs.Laws.{laws}
-use Rattle.claim.proofs.Compose.{words-after, fresh-is, asked-is}
+use Rattle.questions.proofs.Laws.{laws}
+use Rattle.questions.proofs.Told.{owed-is}
+use Rattle.claim.proofs.Compose.{words-after, fresh-is}
 use Rattle.claim.proofs.Demand.{demand-3}
 use Rattle.bookpost.specs.History.{numbersOf, owedFrom, historyRefusal, Told}
 use Rattle.bookpost.proofs.Posting.{rest, next-left}
@@ -48,7 +49,7 @@ owed-run h (e ∷ es) w =
     let w2 = offered-lawful h e w in
     let k = laws (offered h e) w2 in
     ap (λ m. owedIn m ∷ owedRun m es) (words-after h e w)
-    ∙ (ap (λ x. x ∷ owedRun (wordsOf (partsOf (offered h e))) es) (asked-is (offered h e) _ _ k ∙ k .on-ledger .owed-is) ∙ ap (λ l. owed (offered h e) ∷ l) (owed-run (offered h e) es w2))
+    ∙ (ap (λ x. x ∷ owedRun (wordsOf (partsOf (offered h e))) es) (owed-is (offered h e) k) ∙ ap (λ l. owed (offered h e) ∷ l) (owed-run (offered h e) es w2))
 
 -- by demand 3, and by its laws for what is owed on the way
 pub numbers-are : (es : List Event) → map numberOf (answers freshWords es) ≡ numbersOf es

@@ -1,20 +1,30 @@
 // An account of a book, posted in place: its records are found one after another, and nothing is copied out of the book.
 use account::Account;
 use account::judge;
-use claim::refusals;
 use layout::Outcome;
 use layout::event_at;
 use little::get;
+use rules::Answer;
 ghost use mathlib.Core.Path.{_≡_};
+ghost use mathlib.Core.Bool.{cond};
 ghost use mathlib.Core.List.{[]};
 ghost use Prim.Native.Nat.{_≤_};
 ghost use lib.ListN.{length};
 ghost use lib.Seq.{sets};
 ghost use Rattle.layout.specs.Book.{bookRefusal};
 ghost use Rattle.layout.specs.Finding.{accountOf};
-ghost use Rattle.claim.specs.Claim.{freshWords};
-ghost use Rattle.claim.specs.Replay.{Ran};
+ghost use Rattle.claim.specs.Claim.{freshWords, accepts, Ran};
 ghost use Rattle.bookpost.specs.History.{numbersOf, owedFrom, historyRefusal, Told};
+
+// 1 for a refusal.
+fn refusals(a: Answer) -> u64
+    ensures { λ r. ⌜ r ≡ cond (accepts a) 0 1 ⌝ }
+{
+    match a {
+        Answer::Accepted(_) => 0,
+        Answer::Refused(_) => 1,
+    }
+}
 
 // Account i of an accepted book, judged record by record in lent memory that is a fresh account; says how many records were
 // refused.

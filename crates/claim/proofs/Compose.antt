@@ -19,12 +19,11 @@ use Rattle.deposit.specs.Deposit.{depositOf}
 use Rattle.collection.specs.Collection.{collectionOf}
 use Rattle.medical.specs.Medical.{medicalOf}
 use Rattle.arrangement.specs.Arrangement.{arrangementOf}
-use Rattle.account.specs.State.{State, wordsOf, view, applied, accountOf}
+use Rattle.account.specs.State.{wordsOf, view, applied, accountOf}
 use Rattle.account.specs.Post.{refusalAt, receiptAt, answerAt, stateAfter, answerTo, wordsAfter}
-use Rattle.questions.specs.Questions.{asked}
 use Rattle.claim.specs.Run.{run, answers}
 use Rattle.claim.specs.Claim.{freshWords}
-use Rattle.claim.proofs.Laws.{Laws, laws}
+use Rattle.questions.proofs.Laws.{Laws, laws}
 
 -- ---- the account's View is the history's, on a day not before its last event
 view-same : (h : History) (e : Event) → Laws h → lastPosted h ≤ e .day → view (accountOf h) e ≡ viewOf h e
@@ -104,8 +103,3 @@ answers-same h (e ∷ es) w =
 pub fresh-is : freshWords ≡ wordsOf (accountOf [])
 unfolding ledgerOf receiptsOf depositOf collectionOf medicalOf arrangementOf
 fresh-is = refl
-
--- what is asked of the memory of a history
-pub asked-is : {A : Type 0} (h : History) (ask : State → A) (none : A) → Laws h → asked (wordsOf (accountOf h)) ask none ≡ ask (accountOf h)
-unfolding asked
-asked-is h ask none k = rw (k .passing) (ap ask (k .account-is))

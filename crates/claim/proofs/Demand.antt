@@ -11,8 +11,6 @@ use Rattle.rules.specs.declared.Event.{Event}
 use Rattle.rules.specs.declared.Answer.{Answer}
 use Rattle.rules.specs.declared.Answer.the-variants.{Accepted, Refused}
 use Rattle.rules.specs.History.{History}
-use Rattle.rules.specs.Deposit.{held}
-use Rattle.rules.specs.Money.{owed}
 use Rattle.rules.specs.Accepted.{refusal, offered, acceptedAfter, accepted, Lawful, answersAfter, cutOn}
 use Rattle.rules.proofs.Lawful.{accepted-lawful, money}
 use Rattle.rules.proofs.Cut.{cut-exact}
@@ -20,11 +18,11 @@ use Rattle.account.specs.State.{stateOn, wordsOf, accountOf, passes}
 use Rattle.account.specs.Post.{refusalAt, answerAt, stateAfter, answerTo, wordsAfter, Leaves}
 use Rattle.account.proofs.Words.{account-whole}
 use Rattle.account.proofs.Exits.{passed-size}
-use Rattle.questions.specs.Questions.{owedIn, heldIn}
+use Rattle.questions.proofs.Laws.{laws}
+use Rattle.questions.proofs.Told as told
 use Rattle.claim.specs.Run.{run, answers, LeftBy}
 use Rattle.claim.specs.Claim.{freshWords, accepts, refusedIn, ClaimOf, Claim, LeftClaim}
-use Rattle.claim.proofs.Laws.{laws}
-use Rattle.claim.proofs.Compose.{answer-to, run-same, answers-same, fresh-is, asked-is}
+use Rattle.claim.proofs.Compose.{answer-to, run-same, answers-same, fresh-is}
 
 -- an answer accepts exactly where no number refuses
 accepts-is : (b : Bool) (r n : ℕ) → accepts (cond b (Accepted r) (Refused n)) ≡ b
@@ -44,17 +42,20 @@ refused-count h (e ∷ es) =
 claim-of : (es : List Event) (h : History) → Lawful h → refusedIn (answersAfter [] es) + length h ≡ length es → ClaimOf (wordsOf (accountOf h)) (answersAfter [] es) es h
 claim-of es h w n =
     let k = laws h w in
-    let owes : owedIn (wordsOf (accountOf h)) ≡ owed h = asked-is h _ _ k ∙ k .on-ledger .owed-is in
-    let holds : heldIn (wordsOf (accountOf h)) ≡ held h = asked-is h _ _ k ∙ k .on-deposit .held-is in
     record {
       answered = refl;
       refused = n;
-      owing = owes;
-      holding = holds;
-      opens = asked-is h _ _ k ∙ rw (k .on-ledger .credits-is, k .on-ledger .open-are);
-      counting = asked-is h _ _ k ∙ k .on-ledger .count-is;
-      serving = asked-is h _ _ k ∙ k .on-collection .service-is;
-      money = rw (owes, holds) (money h w);
+      owing = told.owed-is h k;
+      holding = told.held-is h k;
+      requiring = told.required-is h k;
+      opens = told.open-are h k;
+      counting = told.count-is h k;
+      serving = told.service-is h k;
+      dues = told.arrears-are h k;
+      arranged = told.in-force-is h k;
+      noticed = told.notice-is h k;
+      certificated = told.certified-is h k;
+      money = rw (told.owed-is h k, told.held-is h k) (money h w);
       cuts = λ t p q. ap accepts (answer-to h (cutOn t) w) ∙ (accepts-is (eqb (refusal h (cutOn t)) 0) _ _ ∙ cut-exact h t p q);
       passing = k .passing;
       words = refl;

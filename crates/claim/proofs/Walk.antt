@@ -11,8 +11,7 @@ use Rattle.account.specs.State.{accountSize, passes, Fit}
 use Rattle.account.specs.Post.{answerTo, wordsAfter, Judges, Leaves}
 use Rattle.account.proofs.Exits.{passed-size, passed-fit, leaves-judged}
 use Rattle.claim.specs.Run.{run, answers}
-use Rattle.claim.specs.Claim.{freshWords, accepts, refusedIn}
-use Rattle.claim.specs.Replay.{Ran}
+use Rattle.claim.specs.Claim.{freshWords, accepts, refusedIn, Ran}
 use Rattle.claim.proofs.Demand.{demand-3}
 
 -- ---- one more event at the end

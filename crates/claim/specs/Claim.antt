@@ -13,15 +13,18 @@ use Rattle.rules.specs.declared.Answer.{Answer}
 use Rattle.rules.specs.declared.Answer.the-variants.{Accepted, Refused}
 use Rattle.rules.specs.Kinds.{bill, payment, depositPaid, payout}
 use Rattle.rules.specs.History.{History, finalDay, lastPosted, total}
-use Rattle.rules.specs.Deposit.{held}
-use Rattle.rules.specs.Money.{credits, owed, openItems}
+use Rattle.rules.specs.Deposit.{held, required}
+use Rattle.rules.specs.Money.{credits, owed, openItems, arrears}
 use Rattle.rules.specs.Service.{service}
+use Rattle.rules.specs.Notice.{noticeLive}
+use Rattle.rules.specs.Medical.{certified}
+use Rattle.rules.specs.Arrangement.{inForce}
 use Rattle.rules.specs.Sums.{lateCharges, feesCharged, returnedPayments}
-use Rattle.rules.specs.Accepted.{accepted, answersBy, cutOn, mayCut}
+use Rattle.rules.specs.Accepted.{dayRefusal, accepted, answersBy, cutOn, mayCut}
 use Rattle.ledger.specs.Ledger.{seen}
 use Rattle.account.specs.State.{accountSize, wordsOf, accountOf, passes}
 use Rattle.account.specs.Post.{answerTo, Leaves}
-use Rattle.questions.specs.Questions.{owedIn, heldIn, serviceIn, openIn, countIn}
+use Rattle.questions.specs.Questions.{owedIn, heldIn, requiredIn, serviceIn, openIn, countIn, arrearsOn, inForceOn, noticeLiveOn, certifiedOn, Tells, Says}
 use Rattle.claim.specs.Run.{run, answers, LeftBy}
 
 -- a fresh account: every word is 0
@@ -49,12 +52,20 @@ pub record ClaimOf (m : List ℕ) (said : List Answer) (es : List Event) (h : Hi
   pub owing : owedIn m ≡ owed h
   -- held is the deposits paid since the last was moved
   pub holding : heldIn m ≡ held h
+  -- required is the sum last asked since the last was moved
+  pub requiring : requiredIn m ≡ required h
   -- the open items, day and unpaid part in the order posted, are the items whose unpaid part min(a_k, max(0, C_k − P)) is above 0
   pub opens : openIn m ≡ map (seen (credits h)) (openItems h)
   -- and as many of them as it says are open
   pub counting : countIn m ≡ length (openItems h)
   -- service is as the last event that sets it says
   pub serving : serviceIn m ≡ service h
+  -- a question for a day is refused with 1 or 2 as an event is; else the arrears on that day are the unpaid parts of its delinquent items,
+  pub dues : (t : ℕ) → Tells (arrearsOn m t) (dayRefusal h t) (arrears h t)
+  -- an arrangement is in force, a notice is live, a certificate is live on that day exactly when the accepted events say so
+  pub arranged : (t : ℕ) → Says (inForceOn m t) (dayRefusal h t) (inForce h t)
+  pub noticed : (t : ℕ) → Says (noticeLiveOn m t) (dayRefusal h t) (noticeLive h t)
+  pub certificated : (t : ℕ) → Says (certifiedOn m t) (dayRefusal h t) (certified h t)
   -- owed less held is bills, late charges, fees, returned payments and payouts, less payments and deposits paid
   pub money : owedIn m -ℤ pos (heldIn m)
       ≡ subℕ (total bill h + lateCharges h + feesCharged h + returnedPayments h + total payout h) (total payment h + total depositPaid h)
@@ -72,3 +83,9 @@ Claim es = ClaimOf (run freshWords es) (answers freshWords es) es (accepted es)
 -- each event posted in memory that the posting before left, whoever lends it
 abbrev pub LeftClaim : List Event → List Answer → List ℕ → Type 0
 LeftClaim es said z = LeftBy Leaves freshWords es said z → ClaimOf z said es (accepted es)
+
+-- a list posted in memory that was fresh: the account after the events, how many were refused, and demand 3 of them
+pub record Ran (m : List ℕ) (refused : ℕ) (es : List Event) : Type 0 where
+  pub words-are : m ≡ run freshWords es
+  pub refused-is : refused ≡ refusedIn (answers freshWords es)
+  pub claim : ClaimOf m (answers freshWords es) es (accepted es)

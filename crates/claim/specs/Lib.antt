@@ -1,4 +1,3 @@
 pub mod Run
 pub mod Claim
-pub mod Replay
 pub mod Many

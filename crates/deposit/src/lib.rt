@@ -129,7 +129,7 @@ impl Deposit {
         w[CUT] = conduct.cut;
     }
 
-    pub fn is_full(self) -> bool
+    fn is_full(self) -> bool
         ensures { λ r. ⌜ r ≡ isFull self ⌝ }
     {
         (0 < self.required) & (self.held == self.required)

@@ -1,18 +1,28 @@
 -- The answers of the static library: plain numbers, since an enum has no form in C; and demand 3 of an account that a program keeps.
-use Prim.Native.Nat.{ℕ, _+_}
+use Prim.Native.Nat.{ℕ, _+_, min}
 use mathlib.Core.Path.{_≡_}
-use mathlib.Core.Bool.{cond}
+use mathlib.Core.Bool.{Bool, cond}
 use mathlib.Core.List.{List, [], map}
 use lib.Dec.{eqb}
 use lib.IntN.{ℤ}
 use lib.ListN.{length}
+use Rattle.basics.specs.Machine.{largest}
 use Rattle.rules.specs.declared.Event.{Event}
 use Rattle.rules.specs.declared.Answer.{Answer}
 use Rattle.rules.specs.declared.Answer.the-variants.{Accepted, Refused}
-use Rattle.rules.specs.Accepted.{accepted, answersBy}
+use Rattle.rules.specs.Money.{arrears}
+use Rattle.rules.specs.Notice.{noticeLive}
+use Rattle.rules.specs.Medical.{certified}
+use Rattle.rules.specs.Arrangement.{inForce}
+use Rattle.rules.specs.Accepted.{dayRefusal, accepted, answersBy}
 use Rattle.account.specs.State.{accountSize}
 use Rattle.account.specs.Post.{answerTo, wordsAfter}
 use Rattle.account.specs.Many.{answerAtOf, wordsAtAfter}
+use Rattle.questions.specs.declared.Amount.{Amount}
+use Rattle.questions.specs.declared.Amount.the-variants as amount
+use Rattle.questions.specs.declared.Truth.{Truth}
+use Rattle.questions.specs.declared.Truth.the-variants as truth
+use Rattle.questions.specs.Questions.{arrearsOn, inForceOn, noticeLiveOn, certifiedOn}
 use Rattle.claim.specs.Run.{LeftBy}
 use Rattle.claim.specs.Claim.{freshWords, ClaimOf}
 use Rattle.layout.specs.Lent.{after}
@@ -59,10 +69,32 @@ pub record Begun (m : List ℕ) (r : ℕ) (k : List ℕ) : Type 0 where
   pub answer-is : r ≡ cond (eqb (length m) accountSize) 1 0
   pub words-are : k ≡ cond (eqb (length m) accountSize) freshWords m
 
+-- what is told for a day: below 256 the number that refuses it; else 256 and the cents, or 256 and 1 for yes, 256 for no
+abbrev pub amountWord : Amount → ℕ
+amountWord (amount.Cents n) = min (256 + n) largest
+amountWord (amount.Refused n) = n
+
+abbrev pub truthWord : Truth → ℕ
+truthWord truth.Yes = 257
+truthWord truth.No = 256
+truthWord (truth.Refused n) = n
+
+-- refused with n, or the value v told
+abbrev pub dayWord : ℕ → ℕ → ℕ
+dayWord n v = cond (eqb n 0) (256 + v) n
+
+abbrev pub yesWord : ℕ → Bool → ℕ
+yesWord n b = dayWord n (cond b 1 0)
+
 -- DEMAND 3 of z, the memory after the list es: what was answered are the answers of the events alone, and the claim holds
 pub record KeptClaimOf (z : List ℕ) (said : List ℕ) (es : List Event) : Type 0 where
   pub answered : said ≡ map answerWord (answersBy es)
   pub claim : ClaimOf z (answersBy es) es (accepted es)
+  -- and for any day what the accepted events say of it, refused with 1 or 2 as an event is
+  pub dues : (t : ℕ) → amountWord (arrearsOn z t) ≡ dayWord (dayRefusal (accepted es) t) (arrears (accepted es) t)
+  pub arranged : (t : ℕ) → truthWord (inForceOn z t) ≡ yesWord (dayRefusal (accepted es) t) (inForce (accepted es) t)
+  pub noticed : (t : ℕ) → truthWord (noticeLiveOn z t) ≡ yesWord (dayRefusal (accepted es) t) (noticeLive (accepted es) t)
+  pub certificated : (t : ℕ) → truthWord (certifiedOn z t) ≡ yesWord (dayRefusal (accepted es) t) (certified (accepted es) t)
 
 -- each event is posted in the memory that the posting before left
 abbrev pub KeptClaim : List Event → List ℕ → List ℕ → Type 0

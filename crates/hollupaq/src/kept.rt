@@ -1,5 +1,6 @@
 // An account that a program in another language keeps in its own memory, and posts to one event at a time. Only pointers with
 // lengths, and numbers, cross the boundary.
+use crate::ACCEPTED;
 use account::WORDS;
 use rules::Answer;
 use rules::Event;
@@ -13,9 +14,6 @@ ghost use Rattle.ledger.specs.Ledger.{noItem};
 ghost use Rattle.account.specs.State.{accountSize};
 ghost use Rattle.questions.specs.Questions.{owedIn, heldIn, requiredIn, serviceIn, openIn, countIn};
 ghost use Rattle.hollupaq.specs.Library.{answerWord, Keeps, KeepsAt, Begun};
-
-// What is answered from here on is accepted: 256 and the receipt.
-const ACCEPTED: u64 = 256;
 
 fn word_of(a: Answer) -> u64
     requires { ⌜ receiptOf a ≤ 1000000000001 ⌝ }

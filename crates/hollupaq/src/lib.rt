@@ -1,4 +1,5 @@
 // The core for programs in other languages: a static library with plain names. include/hollupaq.h says the same in C.
+mod days;
 mod kept;
 
 use bookpost::history;
@@ -7,6 +8,9 @@ use report::report;
 ghost use mathlib.Core.Path.{_≡_};
 ghost use Rattle.report.specs.Report.{textOf};
 ghost use Rattle.hollupaq.specs.Library.{Written, bytesOf, Noted};
+
+// What is answered from here on is accepted, or told: 256 and the value. Below it stands the number that refuses.
+const ACCEPTED: u64 = 256;
 
 // How many bytes were written, 0 where the output was too short.
 fn bytes_of(p: Printed) -> u64

@@ -1,1 +1,3 @@
 pub mod Asked
+pub mod Laws
+pub mod Told

@@ -1,6 +1,7 @@
 -- What an account answers, of any memory: what is no account owes and holds nothing, has no open items and is closed, and every question for a day is refused with 0.
 use Prim.Native.Nat.{ℕ, _-_}
-use mathlib.Core.Bool.{Bool, true, false, cond}
+use mathlib.Core.Path.{_≡_}
+use mathlib.Core.Bool.{Bool, true, false, cond, _&&_}
 use mathlib.Core.List.{List, []}
 use lib.Dec.{eqb}
 use lib.IntN.{ℤ, pos, subℕ}
@@ -48,8 +49,8 @@ countIn m = asked m (λ s. s .ledger .made - s .ledger .closed) 0
 
 -- ---- for a day t, refused with 1 or 2 as an event is
 -- the number that refuses a question for t, 0 for none
-abbrev pub dayRefusal : State → ℕ → ℕ
-dayRefusal s t = dayRows (s .last) t 0
+abbrev pub dayRefusalBy : State → ℕ → ℕ
+dayRefusalBy s t = dayRows (s .last) t 0
 
 -- a sum, or a yes or no, where no number refuses
 abbrev pub toldCents : ℕ → ℕ → Amount
@@ -59,19 +60,24 @@ abbrev pub toldTruth : ℕ → Bool → Truth
 toldTruth n b = cond (eqb n 0) (cond b truth.Yes truth.No) (truth.Refused n)
 
 abbrev pub arrearsOn : List ℕ → ℕ → Amount
-arrearsOn m t = asked m (λ s. toldCents (dayRefusal s t) (arrearsBy (s .ledger) t)) (amount.Refused 0)
+arrearsOn m t = asked m (λ s. toldCents (dayRefusalBy s t) (arrearsBy (s .ledger) t)) (amount.Refused 0)
 
 -- an arrangement is in force, a notice is live, a certificate is live
 abbrev pub inForceOn : List ℕ → ℕ → Truth
-inForceOn m t = asked m (λ s. toldTruth (dayRefusal s t) (inForceBy (s .arrangement) t)) (truth.Refused 0)
+inForceOn m t = asked m (λ s. toldTruth (dayRefusalBy s t) (inForceBy (s .arrangement) t)) (truth.Refused 0)
 
 abbrev pub noticeLiveOn : List ℕ → ℕ → Truth
-noticeLiveOn m t = asked m (λ s. toldTruth (dayRefusal s t) (liveBy (s .collection .notice) t)) (truth.Refused 0)
+noticeLiveOn m t = asked m (λ s. toldTruth (dayRefusalBy s t) (liveBy (s .collection .notice) t)) (truth.Refused 0)
 
 abbrev pub certifiedOn : List ℕ → ℕ → Truth
-certifiedOn m t = asked m (λ s. toldTruth (dayRefusal s t) (certifiedBy (s .medical) t)) (truth.Refused 0)
+certifiedOn m t = asked m (λ s. toldTruth (dayRefusalBy s t) (certifiedBy (s .medical) t)) (truth.Refused 0)
 
 -- ---- document 01's number and value of such an answer, by cases
+-- something is told; else a number refuses, which is 0 where the memory is no account
+abbrev pub amountTold : Amount → Bool
+amountTold (amount.Cents n) = true
+amountTold (amount.Refused n) = false
+
 -- the number that refuses, 0 for none
 abbrev pub amountNumber : Amount → ℕ
 amountNumber (amount.Cents n) = 0
@@ -81,6 +87,11 @@ amountNumber (amount.Refused n) = n
 abbrev pub amountCents : Amount → ℕ
 amountCents (amount.Cents n) = n
 amountCents (amount.Refused n) = 0
+
+abbrev pub truthTold : Truth → Bool
+truthTold truth.Yes = true
+truthTold truth.No = true
+truthTold (truth.Refused n) = false
 
 abbrev pub truthNumber : Truth → ℕ
 truthNumber truth.Yes = 0
@@ -92,3 +103,15 @@ abbrev pub truthYes : Truth → Bool
 truthYes truth.Yes = true
 truthYes truth.No = false
 truthYes (truth.Refused n) = false
+
+-- the answer tells c, or is refused with n where n is not 0
+pub record Tells (a : Amount) (n c : ℕ) : Type 0 where
+  pub told : amountTold a ≡ eqb n 0
+  pub number : amountNumber a ≡ n
+  pub cents : amountCents a ≡ cond (eqb n 0) c 0
+
+-- the answer says whether b, or is refused with n where n is not 0
+pub record Says (x : Truth) (n : ℕ) (b : Bool) : Type 0 where
+  pub told : truthTold x ≡ eqb n 0
+  pub number : truthNumber x ≡ n
+  pub yes : truthYes x ≡ (eqb n 0 && b)

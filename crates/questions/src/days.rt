@@ -13,12 +13,12 @@ use account::spans::WORDS;
 ghost use mathlib.Core.Path.{_≡_};
 ghost use lib.ListN.{length};
 ghost use Rattle.account.specs.State.{accountSize, stateOn};
-ghost use Rattle.questions.specs.Questions.{dayRefusal, toldCents, toldTruth, arrearsOn, inForceOn, noticeLiveOn, certifiedOn};
+ghost use Rattle.questions.specs.Questions.{dayRefusalBy, toldCents, toldTruth, arrearsOn, inForceOn, noticeLiveOn, certifiedOn};
 
 // The number that refuses day t, 0 for none.
 fn day_refusal(m: &[u64], t: u64) -> u8
     requires { ⌜ length (now m) ≡ accountSize ⌝ }
-    ensures { λ r. ⌜ r ≡ dayRefusal (stateOn (now (m .entry))) t ⌝ }
+    ensures { λ r. ⌜ r ≡ dayRefusalBy (stateOn (now (m .entry))) t ⌝ }
 {
     let last = span::word(&m[LAST..COLLECTION]);
     range::day_row(last, t)

@@ -12,7 +12,7 @@ use rules::Service;
 ghost use mathlib.Core.Path.{_≡_};
 ghost use lib.ListN.{getD};
 ghost use Rattle.ledger.specs.Ledger.{noItem};
-ghost use Rattle.questions.specs.Questions.{owedIn, heldIn, requiredIn, serviceIn, openIn, countIn, amountNumber, amountCents, truthNumber, truthYes};
+ghost use Rattle.questions.specs.Questions.{owedIn, heldIn, requiredIn, serviceIn, openIn, countIn};
 pub use days::arrears;
 pub use days::certified;
 pub use days::in_force;
@@ -92,50 +92,4 @@ pub fn open_item(m: &[u64], i: usize) -> OpenItem
         return ledger::open_item(&m[LEDGER..WORDS], i as u64);
     }
     OpenItem { day: 0, unpaid: 0 }
-}
-
-impl Amount {
-    // The number that refuses the day, 0 where the cents are told.
-    pub fn number(self) -> u8
-        ensures { λ r. ⌜ r ≡ amountNumber self ⌝ }
-    {
-        match self {
-            Amount::Cents(_) => 0,
-            Amount::Refused(n) => n,
-        }
-    }
-
-    // The cents, 0 where the day is refused.
-    pub fn cents(self) -> u64
-        ensures { λ r. ⌜ r ≡ amountCents self ⌝ }
-    {
-        match self {
-            Amount::Cents(n) => n,
-            Amount::Refused(_) => 0,
-        }
-    }
-}
-
-impl Truth {
-    // The number that refuses the day, 0 where yes or no is told.
-    pub fn number(self) -> u8
-        ensures { λ r. ⌜ r ≡ truthNumber self ⌝ }
-    {
-        match self {
-            Truth::Yes => 0,
-            Truth::No => 0,
-            Truth::Refused(n) => n,
-        }
-    }
-
-    // Whether the answer is yes.
-    pub fn is_yes(self) -> bool
-        ensures { λ r. ⌜ r ≡ truthYes self ⌝ }
-    {
-        match self {
-            Truth::Yes => true,
-            Truth::No => false,
-            Truth::Refused(_) => false,
-        }
-    }
 }

@@ -120,7 +120,7 @@ fn fields_of(kind: u8) -> Fields
 }
 
 // For every kind, option and amount, unknown kinds too.
-pub fn in_range(e: Event) -> bool
+fn in_range(e: Event) -> bool
     ensures { λ r. ⌜ r ≡ inRange e ⌝ }
 {
     let f = fields_of(e.kind);

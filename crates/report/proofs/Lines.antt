@@ -15,7 +15,7 @@ use Rattle.rules.specs.Service.{service, wordOf}
 use Rattle.rules.specs.Accepted.{accepted}
 use Rattle.account.specs.State.{State, stateOn, passes}
 use Rattle.questions.specs.Questions.{asked}
-use Rattle.claim.specs.Replay.{Ran}
+use Rattle.claim.specs.Claim.{Ran}
 use Rattle.layout.specs.Book.{AccountList}
 use Rattle.text.specs.Decimal.{width, decimal, signed}
 use Rattle.text.proofs.Numerals.{length-decimal, length-marked, width-short, signed-short}

@@ -43,9 +43,13 @@ viewOf h e =
       «open_count» = length (openItems h);
     }
 
--- 1: day over 73,048; 2: day before that of the last accepted. rest where neither refuses; a question for a day is refused by these too
+-- 1: day over 73,048; 2: day before that of the last accepted. rest where neither refuses
 abbrev pub dayRows : ℕ → ℕ → ℕ → ℕ
 dayRows last t rest = cond (ltb finalDay t) 1 (cond (ltb t last) 2 rest)
+
+-- the number that refuses a question for day t after h, 0 for none: 1 or 2, as an event is refused
+abbrev pub dayRefusal : History → ℕ → ℕ
+dayRefusal h t = dayRows (lastPosted h) t 0
 
 -- the number that refuses e after h, 0 for none: 1 and 2 for the day, 3 for the range, then the table
 abbrev pub refusal : History → Event → ℕ
