@@ -1,4 +1,5 @@
 //! Memory that has not the length of an account.
+use super::days::{self, OnDay};
 use super::posting::Kept;
 use crate::peer::kind::PAYMENT;
 use crate::peer::Posted;
@@ -18,6 +19,7 @@ struct Outcome {
     owed: i64,
     told: [u64; 5],
     service: u32,
+    days: Vec<OnDay>,
 }
 
 /// As a call has to end on memory that is no account.
@@ -30,6 +32,7 @@ fn expected(memory: &[u64]) -> Outcome {
         owed: 0,
         told: [0; 5],
         service: 2,
+        days: days::by_no_account(&days::asked(&[])),
     }
 }
 
@@ -50,6 +53,7 @@ fn found(memory: &[u64], event: Event) -> Outcome {
             lent::open_unpaid(memory, 0),
         ],
         service: lent::service(memory),
+        days: days::by_account(memory, &days::asked(&[])),
         memory: after,
     }
 }
@@ -90,6 +94,7 @@ mod tests {
         assert_eq!((found.post, found.post_at, found.fresh), (256, 0, 1));
         assert_eq!((found.owed, found.service), (6_000, 0));
         assert_eq!(found.told, [0, 0, 1, 7, 6_000]);
+        assert_eq!(found.days[2], (73_048, [256 + 6_000, 256, 256, 256]));
         assert_eq!(found.memory, Account::fresh().words());
     }
 
@@ -97,7 +102,7 @@ mod tests {
     fn another_outcome_is_seen() {
         let right = expected(&[7, 8]);
         assert_eq!(difference(&right, &right), None);
-        let wrong: [fn(&mut Outcome); 8] = [
+        let wrong: [fn(&mut Outcome); 9] = [
             |outcome| outcome.memory[1] += 1,
             |outcome| outcome.fresh = 1,
             |outcome| outcome.post = 256,
@@ -106,6 +111,7 @@ mod tests {
             |outcome| outcome.told[0] = 1,
             |outcome| outcome.told[4] = 1,
             |outcome| outcome.service = 0,
+            |outcome| outcome.days[0].1[3] = 1,
         ];
         for make_wrong in wrong {
             let mut outcome = right.clone();

@@ -1,5 +1,6 @@
 //! A history posted to an account that the caller keeps.
 use super::bytes;
+use super::days::{self, OnDay};
 use super::told::Told;
 use std::hint::black_box;
 use tools::core::{Account, Answer};
@@ -45,6 +46,8 @@ pub struct Kept {
     pub replies: Vec<(Answer, i64)>,
     pub asked: Asked,
     pub told: Vec<Told>,
+    /// What it told for days, asked as often.
+    pub days: Vec<Vec<OnDay>>,
     /// The account at the end.
     pub account: Account,
     /// The first refused event that changed the account, counted from 0, and the bytes that it changed.
@@ -62,21 +65,29 @@ fn keep_by(events: &[Event], asked: Asked, post: fn(&mut Surrounded, Event) -> A
         replies: Vec::with_capacity(events.len()),
         asked,
         told: Vec::new(),
+        days: Vec::new(),
         account: Account::fresh(),
         changed: None,
         is_touched_around: false,
     };
+    let mut accepted = Vec::new();
     for (at, &event) in events.iter().enumerate() {
         let before = memory.account.clone();
         let answer = post(&mut memory, event);
         let account = &memory.account;
         kept.replies.push((answer, account.owed()));
-        if matches!(answer, Answer::Refused(_)) && kept.changed.is_none() {
-            let differing = bytes::differing(&before, account);
-            kept.changed = (!differing.is_empty()).then_some((at, differing));
+        match answer {
+            Answer::Accepted(_) => accepted.push(event),
+            Answer::Refused(_) if kept.changed.is_none() => {
+                let differing = bytes::differing(&before, account);
+                kept.changed = (!differing.is_empty()).then_some((at, differing));
+            }
+            Answer::Refused(_) => {}
         }
         if asked == Asked::AfterEach || at + 1 == events.len() {
             kept.told.push(Told::by_account(account));
+            let asked = days::asked(&accepted);
+            kept.days.push(days::by_account(account.words(), &asked));
         }
     }
     kept.is_touched_around = !memory.is_untouched_around();
@@ -114,6 +125,7 @@ mod tests {
         assert_eq!(end.replies, expected);
         assert_eq!(each.told.len(), 3);
         assert_eq!(end.told, each.told[2..]);
+        assert_eq!((each.days.len(), &end.days[..]), (3, &each.days[2..]));
     }
 
     #[test]

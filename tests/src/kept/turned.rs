@@ -1,5 +1,6 @@
 //! Accounts some of whose bits were turned: memory that the core did not leave so.
 use super::bytes;
+use super::days;
 use super::posting::Surrounded;
 use super::told::Told;
 use crate::generator::History;
@@ -84,16 +85,19 @@ fn post_on(
         let answer = post(&mut memory.account, event);
         // It has to answer; what it tells is laid down only where it is seen to be no account.
         let told = Told::by_account(&memory.account);
+        let asked = days::asked(&[]);
+        let for_days = days::by_account(memory.account.words(), &asked);
+        let is_none = told == Told::by_no_account() && for_days == days::by_no_account(&asked);
         let changed = bytes::differing(&before, &memory.account);
         let fine = match answer {
             Answer::Accepted(_) => !seen,
-            Answer::Refused(0) => changed.is_empty() && told == Told::by_no_account(),
+            Answer::Refused(0) => changed.is_empty() && is_none,
             Answer::Refused(number) => !seen && number <= 19 && changed.is_empty(),
         };
         if !fine || !memory.is_untouched_around() {
             let event = show::event(event);
             return Err(format!(
-                "{event}: {answer:?}, changed {changed:?}, {told:?}"
+                "{event}: {answer:?}, changed {changed:?}, {told:?}, {for_days:?}"
             ));
         }
         seen = answer == Answer::Refused(0);
