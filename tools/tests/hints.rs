@@ -4,7 +4,7 @@ use std::ops::RangeInclusive;
 use tools::core::{Account, Answer};
 use tools::event::Event;
 use tools::hints::{
-    arrears_days, call_days, certificate_end, conduct_days, full_days, hint, notice_days, Days,
+    arrears_days, call_days, conduct_from, full_days, hint, notice_days, Before, Days,
     DEPOSIT_NOTICES, RETURNABLE,
 };
 use tools::words::day;
@@ -53,6 +53,13 @@ fn reconnection(day: u32) -> Event {
 /// A lawful disconnection on a day.
 fn lawful(day: u32) -> [Event; 3] {
     [notice(day - 5), call(day - 1), cut(day)]
+}
+
+/// The account before an event, as its hint looks at it.
+fn before(events: &[Event]) -> Before {
+    let mut before = Before::default();
+    events.iter().for_each(|&event| before.accept(event));
+    before
 }
 
 /// Whether the number refuses the last event, posted after the others, which have to be accepted.
@@ -139,31 +146,30 @@ fn notices(first: u32, count: usize) -> Vec<Event> {
 }
 
 #[test]
-fn so_many_notices_in_these_days_are_too_many() {
+fn so_many_notices_from_this_day_on_are_too_many() {
     let t = 1_000;
-    let days = conduct_days(t);
+    let from = conduct_from(t);
     for count in 1..=DEPOSIT_NOTICES + 2 {
-        let first = days.last - 21 * (count as u32 - 1);
+        let first = t - 21 * (count as u32 - 1);
         let events = [notices(first, count), vec![moved(t)]].concat();
         let refused = refused_by(8, &with_deposit(&events));
         assert_eq!(refused, count > DEPOSIT_NOTICES, "{count}");
     }
-    // One too many, if the oldest of them lies in these days.
+    // One too many, if the oldest of them is not earlier.
     let oldest_on = |n| {
         let events = [notices(n, DEPOSIT_NOTICES + 1), vec![moved(t)]].concat();
         with_deposit(&events)
     };
-    let before: Vec<u32> = (20..days.first).collect();
-    assert_eq!(passing(8, 20..=days.first + 50, oldest_on), before);
+    let earlier: Vec<u32> = (20..from).collect();
+    assert_eq!(passing(8, 20..=from + 50, oldest_on), earlier);
 }
 
 #[test]
-fn a_disconnection_in_these_days_is_one_too_many() {
+fn a_disconnection_from_this_day_on_is_one_too_many() {
     let t = 1_000;
-    let days = conduct_days(t);
     let cut_on = |c| with_deposit(&[&lawful(c)[..], &[moved(t)]].concat());
-    let before: Vec<u32> = (25..days.first).collect();
-    assert_eq!(passing(8, 25..=days.last, cut_on), before);
+    let earlier: Vec<u32> = (25..conduct_from(t)).collect();
+    assert_eq!(passing(8, 25..=t, cut_on), earlier);
 }
 
 #[test]
@@ -181,7 +187,7 @@ fn so_many_of_the_newest_payments_can_be_returned() {
             let events = [&payments[..], &[returned(0, receipt)]].concat();
             let is_newest = receipt <= count && count - receipt < RETURNABLE;
             assert_eq!(refused_by(6, &events), !is_newest, "{receipt} of {count}");
-            let told = hint(6, &returned(0, receipt), &payments).unwrap();
+            let told = hint(6, &returned(0, receipt), &before(&payments)).unwrap();
             assert_eq!(told.contains("receipts up to"), receipt > count);
         }
     }
@@ -191,29 +197,42 @@ fn so_many_of_the_newest_payments_can_be_returned() {
 fn a_payment_is_returned_once() {
     let events = [payment(0, 100), returned(7, 1), returned(8, 1)];
     assert!(refused_by(6, &events));
-    let told = hint(6, &events[2], &events[..2]);
+    let told = hint(6, &events[2], &before(&events[..2]));
     assert_eq!(told, Some(format!("it was returned on {}", day(7))));
 }
 
-#[test]
-fn a_certificate_is_live_to_its_end() {
-    let t = 200;
-    for days in [1, 2, 30, 179, 180] {
-        let certified_on = |c| {
-            let mut events = vec![
-                bill(0, 60_000),
-                notice(180),
-                call(199),
-                certificate(c, days),
-            ];
-            events.sort_by_key(|event| event.day);
-            events.push(cut(t));
-            events
-        };
-        let over = |c: &u32| certificate_end(&certificate(*c, days)) < u64::from(t);
-        let before: Vec<u32> = (0..=t).filter(over).collect();
-        assert_eq!(passing(15, 0..=t, certified_on), before, "{days} days");
+/// What bars a disconnection by a number, and is told for it, ends as the hint says: on its last day, and not on the next.
+fn bars_to_the_day_told(number: u8, bar: Event, end: u32) {
+    let t = end - 3;
+    let mut events = vec![bill(0, 60_000), notice(end - 10), bar];
+    events.sort_by_key(|event| event.day);
+    let told = hint(number, &cut(t), &before(&events)).unwrap();
+    assert!(told.ends_with(&format!(" to {}", day(end))), "{told}");
+    for (day, refused) in [(t, true), (end, true), (end + 1, false)] {
+        let later = [&events[..], &[call(day - 1), cut(day)]].concat();
+        assert_eq!(refused_by(number, &later), refused, "day {day}");
     }
+}
+
+#[test]
+fn a_certificate_is_live_to_the_day_told() {
+    for days in [5, 30, 180] {
+        bars_to_the_day_told(15, certificate(100, days), 100 + days as u32 - 1);
+    }
+}
+
+#[test]
+fn an_arrangement_is_in_force_to_the_day_told() {
+    // Nothing is paid, so that it falls behind with its first part.
+    bars_to_the_day_told(14, Event::new(11, 2, 100, 0), 129);
+}
+
+#[test]
+fn a_notice_is_live_to_the_day_told() {
+    let told = hint(11, &notice(30), &before(&[bill(0, 60_000), notice(25)])).unwrap();
+    assert!(told.ends_with(&format!(" to {}", day(45))), "{told}");
+    assert!(refused_by(11, &[bill(0, 60_000), notice(25), notice(45)]));
+    assert!(!refused_by(11, &[bill(0, 60_000), notice(25), notice(46)]));
 }
 
 #[test]
@@ -222,7 +241,7 @@ fn the_last_accepted_event_has_the_first_day_of_the_next() {
         let early = call(last - 1);
         assert!(refused_by(2, &[call(last), early]));
         assert!(!refused_by(2, &[call(last), call(last)]));
-        let told = hint(2, &early, &[call(last)]).unwrap();
+        let told = hint(2, &early, &before(&[call(last)])).unwrap();
         assert!(told.ends_with(&day(last)));
     }
 }

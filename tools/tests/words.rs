@@ -94,6 +94,23 @@ fn the_arrears_that_a_notice_wants_are_the_core_s() {
 }
 
 #[test]
+fn the_days_for_a_call_are_the_core_s() {
+    let days: Vec<u32> = (0..=25)
+        .filter(|&day| {
+            let mut events = [
+                Event::of(1, 0, 6_000),
+                Event::of(12, 20, 0),
+                Event::of(13, day, 0),
+            ];
+            events.sort_by_key(|event| event.day);
+            last_answer(&[&events[..], &[Event::of(14, 25, 0)]].concat()) == ACCEPTED
+        })
+        .collect();
+    assert_eq!(days, [22, 23, 24]);
+    assert_eq!(meaning(13), "no call on the three days before");
+}
+
+#[test]
 fn the_open_charges_are_the_core_s() {
     let most = numbers(meaning(18))[0] as usize;
     let fees = |count| last_answer(&vec![Event::new(4, 3, 0, 0); count]);
@@ -106,9 +123,10 @@ fn the_largest_sum_is_the_core_s() {
     let most = numbers(meaning(19))[0];
     let largest = 10_000_000_000;
     let mut payments = vec![Event::of(2, 0, largest); (most / largest) as usize];
-    payments.push(Event::of(2, 0, 1));
-    assert_eq!(last_answer(&payments), Answer::Refused(19));
-    payments[0].amount -= 1;
+    let rest = most % largest;
+    payments.extend((rest > 0).then(|| Event::of(2, 0, rest)));
     let receipt = payments.len() as u64;
     assert_eq!(last_answer(&payments), Answer::Accepted(receipt));
+    payments.push(Event::of(2, 0, 1));
+    assert_eq!(last_answer(&payments), Answer::Refused(19));
 }
