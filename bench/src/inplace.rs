@@ -641,50 +641,47 @@ pub fn report(book: &[u8], out: &mut [u8]) -> usize {
 #[cfg(test)]
 mod tests {
     use super::*;
-    use crate::books::Dice;
+    use ::tests::books;
+    use std::collections::BTreeSet;
     use tools::core;
-    use tools::event::Event;
 
-    /// An event that is often in range and near the bounds of the rules.
-    fn any_event(dice: &mut Dice, day: &mut u32) -> Event {
-        *day += [0, 0, 1, 1, 2, 5, 16, 20, 30, 180][dice.roll(0, 9) as usize];
-        let kind = dice.roll(1, 16) as u8;
-        let amounts = [1, 2, 30, 180, 1_499, 5_000, 10_000, 100_000_000];
-        let near = dice.roll(0, 3);
-        let amount = match kind {
-            4 | 7 | 11..=16 => near / 3 * dice.roll(0, 1),
-            3 => dice.roll(1, 40),
-            _ => amounts[dice.roll(0, 7) as usize] + near,
+    /// What is answered to the events of an account, and what is owed after each.
+    fn replies(book: &[u8], account: usize) -> Vec<core::Reply> {
+        let mut kept = Account::fresh();
+        let reply = |bytes| core::Reply {
+            number: kept.post(record(bytes)),
+            owed: kept.owed(),
         };
-        let option = match kind {
-            4 | 11 | 15 => dice.roll(0, 4) as u8,
-            _ => u8::from(dice.chance(2)),
-        };
-        Event {
-            kind,
-            option,
-            day: day.wrapping_sub(u32::from(dice.chance(5))),
-            amount,
-        }
+        records(book, account).iter().map(reply).collect()
     }
 
     #[test]
     fn it_answers_as_the_core_does() {
-        for seed in 0..300 {
-            let mut dice = Dice::new(seed);
-            let mut day = dice.roll(0, 72_000) as u32;
-            let events: Vec<Event> = (0..200).map(|_| any_event(&mut dice, &mut day)).collect();
-            let book = core::books::write(&[events]).unwrap();
-            let mut account = Account::fresh();
-            let answers = core::history(&book, 0).unwrap();
-            for (k, (bytes, reply)) in records(&book, 0).iter().zip(answers).enumerate() {
-                let number = account.post(record(bytes));
-                let told = (number, account.owed());
-                assert_eq!(told, (reply.number, reply.owed), "seed {seed}, event {k}");
+        let mut numbers = BTreeSet::new();
+        for index in 0..1_500 {
+            let list = books::book(2, index).list();
+            if let Ok(book) = core::books::write(&list) {
+                for account in 0..list.len() {
+                    let by_core = core::history(&book, account).unwrap();
+                    assert_eq!(replies(&book, account), by_core, "book {index}");
+                    numbers.extend(by_core.iter().map(|reply| reply.number));
+                }
             }
+        }
+        // Every number refused something, and 0 is accepted.
+        assert_eq!(numbers, (0..=19).collect());
+    }
+
+    #[test]
+    fn it_prints_what_the_core_prints() {
+        let mut refusals = BTreeSet::new();
+        for index in 0..600 {
+            let book = books::book(3, index).bytes;
             let mut out = vec![0; core::report_room(&book)];
             let written = report(&book, &mut out);
-            assert_eq!(core::report(&book), out[..written]);
+            assert_eq!(core::report(&book), out[..written], "book {index}");
+            refusals.insert(book_refusal(&book));
         }
+        assert_eq!(refusals, BTreeSet::from([0, 20, 21]));
     }
 }

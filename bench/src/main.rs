@@ -7,17 +7,19 @@ mod ledgers;
 mod posting;
 mod row;
 
-use row::Times;
+use row::{Goal, Times};
 use std::hint::black_box;
 use std::process::ExitCode;
 use tools::event::Event;
 use tools::{core, words};
 
-/// What a row may take, in words: at most so many times the rules in place.
-const STANDING_GOAL: &str = "goal 2.00, wished 1.50";
-const FULL_STANDING_GOAL: &str = "goal 1.60";
-const KEPT_GOAL: &str = "goal 4.00";
-const BY_VALUE_GOAL: &str = "goal 15.00";
+/// What a row may take at most, to the rules in place.
+const STANDING_GOAL: Goal = Goal::of(2.0).with_wish(1.5);
+const FULL_STANDING_GOAL: Goal = Goal::of(1.6);
+const KEPT_GOAL: Goal = Goal::of(4.0);
+const BY_VALUE_GOAL: Goal = Goal::of(15.0);
+/// Flat, but for what the clock can't tell.
+const GROWTH_GOAL: Goal = Goal::of(1.15);
 
 const MANY: usize = 60;
 const GROWTH_EVENTS: u64 = 16_000;
@@ -76,7 +78,7 @@ fn compare(book: &[u8]) -> Result<(), String> {
     }
 }
 
-fn standing(name: &str, goal: &str, list: &[Vec<Event>]) -> Result<Times, String> {
+fn standing(name: &str, goal: Goal, list: &[Vec<Event>]) -> Result<Times, String> {
     let book = book_of(list)?;
     compare(&book)?;
     let mut out = vec![0; core::report_room(&book)];
@@ -126,7 +128,11 @@ fn growth(name: &str, events: impl Fn(u64, usize) -> Vec<Event>) -> Result<(), S
         .zip(&times)
         .map(|(records, time)| format!("{records}: {:.2}", time / times[0]))
         .collect();
-    println!("  {name:<28} {}   goal 1.00, flat", ratios.join("   "));
+    let most = times
+        .iter()
+        .fold(0.0, |most: f64, time| most.max(time / times[0]));
+    let verdict = GROWTH_GOAL.verdict(most);
+    println!("  {name:<28} {}   {verdict}", ratios.join("   "));
     Ok(())
 }
 
@@ -150,11 +156,12 @@ fn ledger(list: &[Vec<Event>], core: f64) {
     let whole = ledgers::time(program, &ledgers::journal(list));
     let start = ledgers::time(program, "");
     match (whole, start) {
-        (Ok(whole), Ok(start)) => println!(
-            "  {program:<28} {:6.0}   goal above 1   (with its start {:.0})",
-            (whole - start) / core,
-            whole / core
-        ),
+        (Ok(whole), Ok(start)) => {
+            let ratio = (whole - start) / core;
+            let verdict = if ratio > 1.0 { "met" } else { "missed" };
+            let with_start = whole / core;
+            println!("  {program:<28} {ratio:6.0}   goal above 1 {verdict}   (with its start {with_start:.0})");
+        }
         (Err(words), _) | (_, Err(words)) => println!("  left out: {words}"),
     }
 }

@@ -169,3 +169,38 @@ impl Coverage {
         missing.map(|(_, pair)| pair).collect()
     }
 }
+
+#[cfg(test)]
+mod tests {
+    use super::*;
+    use crate::make::{bill, cut};
+    use crate::peer::post_all;
+
+    fn missing(coverage: &Coverage) -> Vec<usize> {
+        let demands = coverage.demands().into_iter();
+        demands.map(|(_, missing)| missing.len()).collect()
+    }
+
+    #[test]
+    fn what_is_not_reached_is_missing() {
+        let mut coverage = Coverage::default();
+        assert_eq!(missing(&coverage), [16, 19, 2, PAIRS, EDGES.len()]);
+        let events = [cut(0), bill(0, 133), bill(0, 1)];
+        coverage.history(&events, &post_all(&events));
+        // A bill is accepted, 10 refuses, and refuses a cut; the second bill is one at 133 owed.
+        assert_eq!(missing(&coverage), [15, 18, 2, PAIRS - 1, EDGES.len() - 1]);
+        coverage.book(b"book refused 21\n");
+        coverage.book(b"account owed held open service refused\n");
+        assert_eq!(missing(&coverage)[2], 1);
+    }
+
+    #[test]
+    fn a_pair_is_one_of_the_table() {
+        let coverage = Coverage::default();
+        assert_eq!(coverage.pairs().len(), PAIRS);
+        assert!(!concerns(0, BILL) && !concerns(20, BILL));
+    }
+
+    /// Document 01's table: 1 to 3 concern all kinds, 4 all but three, and so on.
+    const PAIRS: usize = 3 * 16 + 13 + 4 + 1 + 4 + 1 + 1 + 2 + 1 + 4 + 2 + 5 + 8;
+}

@@ -1,6 +1,7 @@
 //! Accounts that the caller keeps and posts to one event at a time: each history of each book, against the peer.
 mod against;
 mod bytes;
+mod days;
 mod lengths;
 mod many;
 mod posting;
@@ -24,6 +25,8 @@ pub struct Accounts {
     answers: Group,
     at_the_end: Group,
     after_each: Group,
+    days_at_the_end: Group,
+    days_after_each: Group,
     by_value: Group,
     refused: Group,
     alone: Group,
@@ -31,6 +34,7 @@ pub struct Accounts {
     lengths: Group,
     many: Group,
     turned: Group,
+    reached: days::Reached,
     /// How many accounts with turned bits the core saw to be none of its own, and how many not.
     seen: usize,
     unseen: usize,
@@ -54,15 +58,19 @@ impl Accounts {
     }
 
     fn history(&mut self, history: &History, often: bool, good: bool) {
-        let (asked, told) = if often {
-            (Asked::AfterEach, &mut self.after_each)
+        let (asked, told, days) = if often {
+            let groups = (&mut self.after_each, &mut self.days_after_each);
+            (Asked::AfterEach, groups.0, groups.1)
         } else {
-            (Asked::AtTheEnd, &mut self.at_the_end)
+            let groups = (&mut self.at_the_end, &mut self.days_at_the_end);
+            (Asked::AtTheEnd, groups.0, groups.1)
         };
         let kept = keep(&history.events, asked);
         let compare = |check: Check| against::compare(history, &kept, check);
         self.answers.try_one(|| compare(against::answers));
         told.try_one(|| compare(against::told));
+        days.try_one(|| compare(against::days));
+        kept.days.iter().for_each(|told| self.reached.note(told));
         self.refused.try_one(|| compare(against::refused));
         self.alone.try_one(|| compare(against::accepted_alone));
         self.around.try_one(|| compare(against::around));
@@ -94,6 +102,14 @@ impl Accounts {
                 &self.after_each,
                 "deposit, service and open items after each event",
             ),
+            (
+                &self.days_at_the_end,
+                "arrears, arrangement, notice and certificate for days, at the end",
+            ),
+            (
+                &self.days_after_each,
+                "arrears, arrangement, notice and certificate for days, after each event",
+            ),
             (&self.by_value, "the same answers by value"),
             (&self.refused, "as they were after a refused event"),
             (&self.alone, "the same bytes by the accepted events alone"),
@@ -105,6 +121,10 @@ impl Accounts {
         for (group, words) in groups {
             group.tell(tally, &format!("kept accounts, {words}"));
         }
+        tally.check(
+            "reached: every answer for a day, and both sides of a change",
+            &self.reached.missing(),
+        );
         let missing = self.not_reached();
         tally.check(
             "reached: turned bits that the core sees, and some that it can't",
@@ -119,5 +139,25 @@ impl Accounts {
         ];
         let missing = wanted.iter().filter(|(count, _)| *count == 0);
         missing.map(|(_, words)| words.to_string()).collect()
+    }
+}
+
+#[cfg(test)]
+mod tests {
+    use super::*;
+
+    #[test]
+    fn turned_bits_are_to_be_seen_and_not_to_be_seen() {
+        let reached = |seen, unseen| {
+            let accounts = Accounts {
+                seen,
+                unseen,
+                ..Accounts::default()
+            };
+            accounts.not_reached().len()
+        };
+        assert_eq!(reached(0, 0), 2);
+        assert_eq!((reached(1, 0), reached(0, 1)), (1, 1));
+        assert_eq!(reached(1, 1), 0);
     }
 }

@@ -71,17 +71,23 @@ pub fn compare_lent(book: &[u8], expected: &[u8], lent: Lent) -> Option<String> 
     };
     let mut out = vec![FILL; length];
     let answer = core::report_into(book, &mut out);
-    let mut wanted = vec![FILL; length];
-    let mut wanted_answer = None;
-    if expected.len() <= length {
-        wanted[..expected.len()].copy_from_slice(expected);
-        wanted_answer = Some(expected.len());
-    }
-    let fine = answer == wanted_answer && out == wanted;
-    (!fine).then(|| {
-        let shown = show::bytes(book);
-        format!("{shown}  {length} bytes lent ({lent:?}), answer {answer:?}, not {wanted_answer:?}")
+    let wanted = wanted(expected, length);
+    (wanted != (answer, out)).then(|| {
+        let (shown, wanted) = (show::bytes(book), wanted.0);
+        format!("{shown}  {length} bytes lent ({lent:?}), answer {answer:?}, not {wanted:?}")
     })
+}
+
+/// The answer, and what lies in memory of a length after it.
+fn wanted(text: &[u8], length: usize) -> (Option<usize>, Vec<u8>) {
+    let mut memory = vec![FILL; length];
+    match memory.get_mut(..text.len()) {
+        Some(place) => {
+            place.copy_from_slice(text);
+            (Some(text.len()), memory)
+        }
+        None => (None, memory),
+    }
 }
 
 /// The number and what is owed after it, for each event.
@@ -120,4 +126,62 @@ pub fn compare_history(book: &Book, account: usize) -> Option<String> {
         text += &format!("    expected: {expected:?}\n    found: {found:?}\n");
     }
     Some(text)
+}
+
+#[cfg(test)]
+mod tests {
+    use super::*;
+    use crate::books;
+    use crate::make::{bill, cut, payment};
+
+    fn book() -> Vec<u8> {
+        tools::book::encode(&[vec![bill(100, 10_000), payment(131, 4_000), cut(131)]])
+    }
+
+    const ANY_LENGTH: [Lent; 5] = [
+        Lent::Exact,
+        Lent::Longer(1),
+        Lent::Longer(200),
+        Lent::Shorter(1),
+        Lent::Shorter(60),
+    ];
+
+    #[test]
+    fn a_text_that_differs_is_seen() {
+        let expected = peer::report(&book());
+        assert_eq!(compare_report(&book(), &expected), None);
+        let mut other = expected.clone();
+        other[40] ^= 1;
+        assert!(compare_report(&book(), &other).is_some());
+        assert!(compare_report(&book(), &expected[1..]).is_some());
+    }
+
+    #[test]
+    fn a_text_is_wanted_where_it_fits() {
+        assert_eq!(wanted(b"ab", 1), (None, vec![FILL]));
+        assert_eq!(wanted(b"ab", 2), (Some(2), b"ab".to_vec()));
+        assert_eq!(wanted(b"ab", 3), (Some(2), vec![b'a', b'b', FILL]));
+    }
+
+    #[test]
+    fn memory_that_differs_is_seen() {
+        let expected = peer::report(&book());
+        for lent in ANY_LENGTH {
+            assert_eq!(compare_lent(&book(), &expected, lent), None);
+        }
+        // A byte more: as much memory as the text takes would be too short, and a longer one has another tail.
+        let longer = [&expected[..], b"x"].concat();
+        for lent in [Lent::Exact, Lent::Longer(7), Lent::Shorter(1)] {
+            assert!(compare_lent(&book(), &longer, lent).is_some(), "{lent:?}");
+        }
+    }
+
+    #[test]
+    fn an_answer_that_differs_is_seen() {
+        let good = (0..40).map(|at| books::book(1, at)).find(Book::is_good);
+        let mut good = good.unwrap();
+        assert_eq!(compare_history(&good, 0), None);
+        good.histories[0].posted.answers[0] ^= 1;
+        assert!(compare_history(&good, 0).is_some());
+    }
 }

@@ -6,6 +6,7 @@
 pub mod arrangement;
 pub mod book;
 pub mod collection;
+pub mod days;
 pub mod deposit;
 pub mod medical;
 pub mod money;

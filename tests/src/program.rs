@@ -101,4 +101,15 @@ mod tests {
         assert!(!agrees(&output(256), b"text"));
         assert!(!agrees(&output(9), b"text"));
     }
+
+    #[test]
+    fn a_program_that_prints_something_else_or_is_not_there_is_seen() {
+        for feed in [Feed::Whole, Feed::Pieces(3)] {
+            // It prints the book itself.
+            let told = compare(Path::new("cat"), &[0; 8], feed).unwrap();
+            assert!(told.contains("account owed held open service refused"));
+            let told = compare(Path::new("no-such-program"), &[0; 8], feed).unwrap();
+            assert!(told.starts_with("  no-such-program does not run: "));
+        }
+    }
 }

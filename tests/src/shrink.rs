@@ -144,6 +144,19 @@ mod tests {
     #[test]
     fn bytes_are_dropped_and_cleared() {
         let differs = |book: &[u8]| book.len() >= 3 && book.contains(&9);
-        assert_eq!(bytes(vec![1, 2, 9, 4, 5, 6], 1, &differs).len(), 3);
+        let mut small = bytes(vec![1, 2, 9, 4, 5, 6], 1, &differs);
+        small.sort();
+        assert_eq!(small, [0, 0, 9]);
+    }
+
+    #[test]
+    fn the_work_is_bounded() {
+        let tries = Cell::new(0);
+        let differs = |_: &[u8]| {
+            tries.set(tries.get() + 1);
+            false
+        };
+        assert_eq!(bytes(vec![7; 100], WORK / 4 + 1, &differs), [7; 100]);
+        assert_eq!(tries.get(), 3);
     }
 }

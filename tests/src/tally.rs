@@ -61,3 +61,45 @@ impl Group {
         }
     }
 }
+
+#[cfg(test)]
+mod tests {
+    use super::*;
+
+    fn counts(tally: &Tally) -> (usize, usize) {
+        (tally.passed, tally.failed)
+    }
+
+    #[test]
+    fn what_speaks_against_a_check_fails_it() {
+        let mut tally = Tally::default();
+        tally.check("fine", &[]);
+        assert_eq!(counts(&tally), (1, 0));
+        tally.check("not fine", &[String::from("  so")]);
+        assert_eq!(counts(&tally), (1, 1));
+        assert!(!tally.finish());
+        assert!(Tally::default().finish());
+    }
+
+    #[test]
+    fn a_group_passes_only_where_it_was_tried() {
+        let (mut fine, mut wrong) = (Group::default(), Group::default());
+        fine.try_one(|| None);
+        wrong.try_one(|| None);
+        wrong.try_one(|| Some(String::from("  so")));
+        let mut tally = Tally::default();
+        for (group, expected) in [(fine, (1, 0)), (wrong, (1, 1)), (Group::default(), (1, 2))] {
+            group.tell(&mut tally, "things");
+            assert_eq!(counts(&tally), expected);
+        }
+    }
+
+    #[test]
+    fn a_group_that_failed_often_is_not_tried_again() {
+        let mut group = Group::default();
+        for at in 0..SHOWN + 2 {
+            group.try_one(|| Some(at.to_string()));
+        }
+        assert_eq!((group.tried, group.against.len()), (SHOWN, SHOWN));
+    }
+}

@@ -1,7 +1,8 @@
 //! The history of an account as a table for the support desk. The answers are the core's; here they only get words.
 use crate::core::Reply;
 use crate::event::Event;
-use crate::{hints, kinds, words};
+use crate::hints::{self, Before};
+use crate::{kinds, words};
 
 /// The cells of one line, as they are shown.
 struct Line {
@@ -32,13 +33,13 @@ pub fn tell(
 }
 
 fn lines(events: &[Event], replies: &[Reply]) -> Vec<Line> {
-    let mut accepted = Vec::new();
+    let mut before = Before::default();
     let mut receipt = 0;
     let mut lines = Vec::new();
     for (event, reply) in events.iter().zip(replies) {
-        let hint = hints::hint(reply.number, event, &accepted);
+        let hint = hints::hint(reply.number, event, &before);
         if reply.number == 0 {
-            accepted.push(*event);
+            before.accept(*event);
             receipt += u64::from(is_payment(event));
         }
         lines.push(Line {

@@ -208,19 +208,27 @@ mod tests {
 
     #[test]
     fn every_number_of_the_table_has_its_own_meaning() {
-        let other = meaning(0);
-        assert_eq!(other, meaning(23));
-        for number in 1..=22 {
-            assert_ne!(meaning(number), other);
+        // The first words of each, in the order of the numbers.
+        let beginnings = "the day is after; the day is before; a field; the account; service; there is no such; the sum; \
+            the deposit; nothing; the arrears; a final; no live; no call; a payment; a medical; there are; less; 64 charges; \
+            charges or; the book's; a record; the memory";
+        for (beginning, number) in beginnings.split("; ").zip(1..=22) {
+            let begins_so = |number: &u8| meaning(*number).starts_with(beginning);
+            let found: Vec<u8> = (0..=23).filter(begins_so).collect();
+            assert_eq!(found, [number], "{beginning}");
         }
+        assert_eq!(meaning(0), "no number of the table");
+        assert_eq!(meaning(23), meaning(0));
     }
 
     #[test]
     fn a_reason_speaks_of_the_kind_alone() {
         assert_eq!(reason(5, 13), "service is not on");
         assert_eq!(reason(5, 15), "service is not off");
-        let sums = [5, 6, 7, 8].map(|kind| reason(7, kind));
-        assert!(sums.iter().all(|reason| *reason != meaning(7)));
+        let words = ["asked", "with it", "no full", "payout"];
+        for (kind, word) in (5..=8).zip(words) {
+            assert!(reason(7, kind).contains(word), "{word}");
+        }
         assert_eq!(reason(12, 14), meaning(12));
     }
 

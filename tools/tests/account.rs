@@ -114,6 +114,52 @@ fn service_goes_off_and_ends() {
 }
 
 #[test]
+fn the_arrears_are_those_of_a_day() {
+    let account = after(&[Event::of(1, 100, 10_000), Event::of(1, 130, 5_000)]);
+    assert_eq!(account.arrears(130), Ok(10_000));
+    assert_eq!(account.arrears(149), Ok(10_000));
+    assert_eq!(account.arrears(150), Ok(15_075));
+    assert_eq!(Account::fresh().arrears(0), Ok(0));
+}
+
+#[test]
+fn an_arrangement_a_notice_and_a_certificate_have_their_days() {
+    let account = after(&[
+        Event::of(1, 0, 6_000),
+        Event::new(11, 2, 20, 0),
+        Event::of(12, 20, 0),
+        Event::of(9, 21, 5),
+    ]);
+    assert_eq!(
+        [49, 50].map(|day| account.in_force(day)),
+        [Ok(true), Ok(false)]
+    );
+    assert_eq!(
+        [40, 41].map(|day| account.notice_live(day)),
+        [Ok(true), Ok(false)]
+    );
+    assert_eq!(
+        [25, 26].map(|day| account.certified(day)),
+        [Ok(true), Ok(false)]
+    );
+}
+
+#[test]
+fn a_day_is_refused_as_that_of_an_event_is() {
+    let mut account = after(&[Event::of(1, 100, 10_000)]);
+    for (day, number) in [(99, 2), (0, 2), (73_049, 1), (u32::MAX, 1)] {
+        assert_eq!(account.post(Event::of(13, day, 0)), Answer::Refused(number));
+        assert_eq!(account.arrears(day), Err(number));
+        let asked = [Account::in_force, Account::notice_live, Account::certified];
+        assert_eq!(asked.map(|ask| ask(&account, day)), [Err(number); 3]);
+    }
+    assert_eq!(
+        (account.arrears(100), account.arrears(73_048)),
+        (Ok(0), Ok(10_000))
+    );
+}
+
+#[test]
 fn a_copy_goes_its_own_way() {
     let mut account = after(&[Event::of(1, 0, 6_000)]);
     let kept = *account.words();
@@ -141,6 +187,12 @@ fn is_no_account(memory: &[u64]) {
         (lent::open_day(memory, 0), lent::open_unpaid(memory, 0)),
         (0, 0)
     );
+    for day in [0, 100, 73_049] {
+        assert_eq!(lent::arrears(memory, day), 0);
+        assert_eq!(lent::in_force(memory, day), 0);
+        assert_eq!(lent::notice_live(memory, day), 0);
+        assert_eq!(lent::certified(memory, day), 0);
+    }
 }
 
 #[test]

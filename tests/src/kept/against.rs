@@ -1,5 +1,6 @@
 //! What speaks against a kept account.
 use super::bytes;
+use super::days;
 use super::posting::{keep, Asked, Kept};
 use super::told::Told;
 use crate::generator::History;
@@ -54,16 +55,32 @@ pub fn answers(events: &[Event], posted: &Posted, kept: &Kept) -> Option<String>
 
 /// What the account tells: owed, deposit, service and open items.
 pub fn told(_: &[Event], posted: &Posted, kept: &Kept) -> Option<String> {
+    let expected = when_asked(posted, kept.asked, Told::by_peer);
+    unequal("what the account tells", &expected, &kept.told)
+}
+
+/// What the account tells for days: arrears, an arrangement in force, a live notice or certificate.
+pub fn days(_: &[Event], posted: &Posted, kept: &Kept) -> Option<String> {
+    let expected = when_asked(posted, kept.asked, days::by_peer);
+    unequal("what the account tells for days", &expected, &kept.days)
+}
+
+/// What the peer tells whenever the account was asked, by the events accepted up to then.
+fn when_asked<T>(
+    posted: &Posted,
+    asked: Asked,
+    by_peer: fn(&[Event], &Money, usize) -> T,
+) -> Vec<T> {
     let money = Money::of(&posted.accepted);
     let mut accepted = 0;
-    let mut expected = Vec::new();
+    let mut told = Vec::new();
     for (at, &number) in posted.answers.iter().enumerate() {
         accepted += usize::from(number == 0);
-        if kept.asked == Asked::AfterEach || at + 1 == posted.answers.len() {
-            expected.push(Told::by_peer(&posted.accepted, &money, accepted));
+        if asked == Asked::AfterEach || at + 1 == posted.answers.len() {
+            told.push(by_peer(&posted.accepted, &money, accepted));
         }
     }
-    unequal("what the account tells", &expected, &kept.told)
+    told
 }
 
 /// The same numbers, and the same owed, as where each event takes the account by value and hands it back.
@@ -113,9 +130,10 @@ mod tests {
     use super::*;
     use crate::make::{bill, cut, payment};
 
-    const CHECKS: [(&str, Check); 6] = [
+    const CHECKS: [(&str, Check); 7] = [
         ("answers", answers),
         ("told", told),
+        ("days", days),
         ("by value", by_value),
         ("refused", refused),
         ("alone", accepted_alone),
@@ -160,10 +178,20 @@ mod tests {
     fn a_wrong_standing_is_seen() {
         // The same sums, but items of other days.
         let other_day = |posted: &mut Posted, _: &mut Kept| posted.accepted[0].day = 99;
-        assert_eq!(speak(other_day), ["told", "alone"]);
+        assert_eq!(speak(other_day), ["told", "days", "alone"]);
         assert_eq!(speak(|_, kept| kept.told.swap(0, 1)), ["told"]);
         let once = |_: &mut Posted, kept: &mut Kept| kept.told.truncate(1);
         assert_eq!(speak(once), ["told"]);
+    }
+
+    #[test]
+    fn a_wrong_word_for_a_day_is_seen() {
+        let cents = |_: &mut Posted, kept: &mut Kept| kept.days[3][1].1[0] += 1;
+        assert_eq!(speak(cents), ["days"]);
+        let certified = |_: &mut Posted, kept: &mut Kept| kept.days[0][2].1[3] += 1;
+        assert_eq!(speak(certified), ["days"]);
+        let fewer = |_: &mut Posted, kept: &mut Kept| kept.days[0].truncate(1);
+        assert_eq!(speak(fewer), ["days"]);
     }
 
     #[test]

@@ -1,4 +1,5 @@
 //! Memory that has not the length of an account.
+use super::days::{self, OnDay};
 use super::posting::Kept;
 use crate::peer::kind::PAYMENT;
 use crate::peer::Posted;
@@ -9,7 +10,7 @@ use tools::event::Event;
 const LENGTHS: [usize; 3] = [0, WORDS - 1, WORDS + 1];
 
 /// What memory was left as, and what it answered, as far as numbers go: all of them are 0, but for the service.
-#[derive(Debug, PartialEq)]
+#[derive(Clone, Debug, PartialEq)]
 struct Outcome {
     memory: Vec<u64>,
     fresh: u8,
@@ -18,6 +19,7 @@ struct Outcome {
     owed: i64,
     told: [u64; 5],
     service: u32,
+    days: Vec<OnDay>,
 }
 
 /// As a call has to end on memory that is no account.
@@ -30,6 +32,7 @@ fn expected(memory: &[u64]) -> Outcome {
         owed: 0,
         told: [0; 5],
         service: 2,
+        days: days::by_no_account(&days::asked(&[])),
     }
 }
 
@@ -50,6 +53,7 @@ fn found(memory: &[u64], event: Event) -> Outcome {
             lent::open_unpaid(memory, 0),
         ],
         service: lent::service(memory),
+        days: days::by_account(memory, &days::asked(&[])),
         memory: after,
     }
 }
@@ -64,10 +68,14 @@ pub fn refused(_: &[Event], posted: &Posted, kept: &Kept) -> Option<String> {
     let payment = Event::of(PAYMENT, day, 1);
     LENGTHS.iter().find_map(|&length| {
         let memory = &words[..length];
-        let (expected, found) = (expected(memory), found(memory, payment));
-        (expected != found).then(|| {
-            format!("  as {length} words\n    expected: {expected:?}\n    found: {found:?}\n")
-        })
+        difference(&expected(memory), &found(memory, payment))
+    })
+}
+
+fn difference(expected: &Outcome, found: &Outcome) -> Option<String> {
+    (expected != found).then(|| {
+        let length = expected.memory.len();
+        format!("  as {length} words\n    expected: {expected:?}\n    found: {found:?}\n")
     })
 }
 
@@ -86,7 +94,30 @@ mod tests {
         assert_eq!((found.post, found.post_at, found.fresh), (256, 0, 1));
         assert_eq!((found.owed, found.service), (6_000, 0));
         assert_eq!(found.told, [0, 0, 1, 7, 6_000]);
+        assert_eq!(found.days[2], (73_048, [256 + 6_000, 256, 256, 256]));
         assert_eq!(found.memory, Account::fresh().words());
+    }
+
+    #[test]
+    fn another_outcome_is_seen() {
+        let right = expected(&[7, 8]);
+        assert_eq!(difference(&right, &right), None);
+        let wrong: [fn(&mut Outcome); 9] = [
+            |outcome| outcome.memory[1] += 1,
+            |outcome| outcome.fresh = 1,
+            |outcome| outcome.post = 256,
+            |outcome| outcome.post_at = 256,
+            |outcome| outcome.owed = -1,
+            |outcome| outcome.told[0] = 1,
+            |outcome| outcome.told[4] = 1,
+            |outcome| outcome.service = 0,
+            |outcome| outcome.days[0].1[3] = 1,
+        ];
+        for make_wrong in wrong {
+            let mut outcome = right.clone();
+            make_wrong(&mut outcome);
+            assert!(difference(&right, &outcome).is_some(), "{outcome:?}");
+        }
     }
 
     #[test]

@@ -1,6 +1,8 @@
 //! Accounts that lie one after another in one memory, against the same accounts kept apart.
 use super::posting::AROUND;
 use crate::generator::History;
+use crate::peer::kind::PAYMENT;
+use crate::peer::LAST_DAY;
 use crate::{show, shrink};
 use std::hint::black_box;
 use tools::core::lent::{self, WORDS};
@@ -47,8 +49,12 @@ pub fn lists(histories: &[History]) -> Vec<Vec<Event>> {
     events.cycle().take(ACCOUNTS).collect()
 }
 
+/// The library's posting to one of many, or one that is not as it should be.
+type PostAt = fn(&mut [u64], usize, Event) -> u64;
+
 /// Lists of events that lead to something else in one memory than apart, shrunk; nothing where they don't.
 pub fn compare(list: Vec<Vec<Event>>) -> Option<String> {
+    let wrong = |list: &[Vec<Event>]| wrong(list, lent::post_at);
     wrong(&list)?;
     let differs = |list: &[Vec<Event>]| wrong(list).is_some();
     let small = shrink::list(list, TRY, &differs);
@@ -58,7 +64,7 @@ pub fn compare(list: Vec<Vec<Event>>) -> Option<String> {
 
 /// Posts the events of the lists in turn, one of each account: every answer is the one that the account gives apart, and
 /// after each event all words are those of the accounts kept apart.
-fn wrong(list: &[Vec<Event>]) -> Option<String> {
+fn wrong(list: &[Vec<Event>], post_at: PostAt) -> Option<String> {
     let mut memory = Memory::fresh(list.len());
     let mut apart = vec![Account::fresh(); list.len()];
     let longest = list.iter().map(Vec::len).max().unwrap_or(0);
@@ -67,7 +73,7 @@ fn wrong(list: &[Vec<Event>]) -> Option<String> {
             let Some(&event) = events.get(turn) else {
                 continue;
             };
-            let answer = Answer::of(lent::post_at(memory.lent(), index, event));
+            let answer = Answer::of(post_at(memory.lent(), index, event));
             let expected = apart[index].post(event);
             if answer != expected || !memory.is_of(&apart) {
                 return Some(format!(
@@ -76,17 +82,18 @@ fn wrong(list: &[Vec<Event>]) -> Option<String> {
             }
         }
     }
-    past_the_end(memory, &apart)
+    past_the_end(memory, &apart, post_at)
 }
 
 /// Where there is no account, nothing is posted: behind the last one, and so far behind that its place would come round to
 /// the first.
-fn past_the_end(mut memory: Memory, apart: &[Account]) -> Option<String> {
+fn past_the_end(mut memory: Memory, apart: &[Account], post_at: PostAt) -> Option<String> {
     let count = apart.len();
-    let event = Event::default();
+    // An account would take it.
+    let event = Event::of(PAYMENT, LAST_DAY, 1);
     let none = [count, count + 1, usize::MAX / WORDS + 1, usize::MAX];
     none.iter().find_map(|&index| {
-        let answer = lent::post_at(memory.lent(), index, event);
+        let answer = post_at(memory.lent(), index, event);
         (answer != 0 || !memory.is_of(apart))
             .then(|| format!("  account {index} of {count}: {answer}, or other words\n"))
     })
@@ -97,15 +104,35 @@ mod tests {
     use super::*;
     use crate::make::{bill, cut, payment};
 
-    #[test]
-    fn three_accounts_go_their_own_ways() {
-        let list = vec![
+    fn list() -> Vec<Vec<Event>> {
+        vec![
             vec![bill(100, 10_000), payment(131, 4_000), cut(131)],
             vec![],
             vec![payment(3, 7)],
-        ];
-        assert_eq!(compare(list), None);
+        ]
+    }
+
+    #[test]
+    fn three_accounts_go_their_own_ways() {
+        assert_eq!(compare(list()), None);
         assert_eq!(compare(vec![]), None);
+    }
+
+    #[test]
+    fn a_posting_that_goes_another_way_is_seen() {
+        let other_ways: [PostAt; 4] = [
+            // Another answer, another account, another account as well, and the last one for those behind it.
+            |words, index, event| lent::post_at(words, index, event) ^ 1,
+            |words, _, event| lent::post_at(words, 0, event),
+            |words, index, event| {
+                words[WORDS] += 1;
+                lent::post_at(words, index, event)
+            },
+            |words, index, event| lent::post_at(words, index.min(ACCOUNTS - 1), event),
+        ];
+        for post_at in other_ways {
+            assert!(wrong(&list(), post_at).is_some());
+        }
     }
 
     #[test]

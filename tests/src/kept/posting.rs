@@ -1,5 +1,6 @@
 //! A history posted to an account that the caller keeps.
 use super::bytes;
+use super::days::{self, OnDay};
 use super::told::Told;
 use std::hint::black_box;
 use tools::core::{Account, Answer};
@@ -45,6 +46,8 @@ pub struct Kept {
     pub replies: Vec<(Answer, i64)>,
     pub asked: Asked,
     pub told: Vec<Told>,
+    /// What it told for days, asked as often.
+    pub days: Vec<Vec<OnDay>>,
     /// The account at the end.
     pub account: Account,
     /// The first refused event that changed the account, counted from 0, and the bytes that it changed.
@@ -53,26 +56,38 @@ pub struct Kept {
 }
 
 pub fn keep(events: &[Event], asked: Asked) -> Kept {
+    keep_by(events, asked, |memory, event| memory.account.post(event))
+}
+
+fn keep_by(events: &[Event], asked: Asked, post: fn(&mut Surrounded, Event) -> Answer) -> Kept {
     let mut memory = Surrounded::by(Account::fresh());
     let mut kept = Kept {
         replies: Vec::with_capacity(events.len()),
         asked,
         told: Vec::new(),
+        days: Vec::new(),
         account: Account::fresh(),
         changed: None,
         is_touched_around: false,
     };
+    let mut accepted = Vec::new();
     for (at, &event) in events.iter().enumerate() {
         let before = memory.account.clone();
-        let answer = memory.account.post(event);
+        let answer = post(&mut memory, event);
         let account = &memory.account;
         kept.replies.push((answer, account.owed()));
-        if matches!(answer, Answer::Refused(_)) && kept.changed.is_none() {
-            let differing = bytes::differing(&before, account);
-            kept.changed = (!differing.is_empty()).then_some((at, differing));
+        match answer {
+            Answer::Accepted(_) => accepted.push(event),
+            Answer::Refused(_) if kept.changed.is_none() => {
+                let differing = bytes::differing(&before, account);
+                kept.changed = (!differing.is_empty()).then_some((at, differing));
+            }
+            Answer::Refused(_) => {}
         }
         if asked == Asked::AfterEach || at + 1 == events.len() {
             kept.told.push(Told::by_account(account));
+            let asked = days::asked(&accepted);
+            kept.days.push(days::by_account(account.words(), &asked));
         }
     }
     kept.is_touched_around = !memory.is_untouched_around();
@@ -110,5 +125,25 @@ mod tests {
         assert_eq!(end.replies, expected);
         assert_eq!(each.told.len(), 3);
         assert_eq!(end.told, each.told[2..]);
+        assert_eq!((each.days.len(), &end.days[..]), (3, &each.days[2..]));
+    }
+
+    #[test]
+    fn a_posting_that_touches_too_much_is_seen() {
+        let events = [bill(100, 10_000), cut(101)];
+        let right = keep(&events, Asked::AtTheEnd);
+        assert!(right.changed.is_none() && !right.is_touched_around);
+        let touching = keep_by(&events, Asked::AtTheEnd, |memory, event| {
+            memory.behind[7] = 0;
+            memory.account.post(event)
+        });
+        assert!(touching.changed.is_none() && touching.is_touched_around);
+        // The refused cut is posted as a payment, and so changes the account.
+        let changing = keep_by(&events, Asked::AtTheEnd, |memory, event| {
+            let answer = memory.account.post(event);
+            memory.account.post(payment(event.day, 1));
+            answer
+        });
+        assert_eq!(changing.changed.map(|(at, _)| at), Some(1));
     }
 }

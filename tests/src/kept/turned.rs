@@ -1,5 +1,6 @@
 //! Accounts some of whose bits were turned: memory that the core did not leave so.
 use super::bytes;
+use super::days;
 use super::posting::Surrounded;
 use super::told::Told;
 use crate::generator::History;
@@ -56,7 +57,7 @@ pub fn compare(history: &History, random: &mut Random) -> Result<bool, String> {
     }
     let turns = turns(&account, random);
     let odd = turn(&account, &turns);
-    post_on(odd, &last_events(history)).map_err(|wrong| {
+    post_on(odd, &last_events(history), Account::post).map_err(|wrong| {
         let shown = show::accounts(slice::from_ref(&history.events));
         let (count, first) = (turns.len(), &turns[..turns.len().min(3)]);
         format!("{shown}  then bits turned in {count} words, first {first:?}\n  {wrong}\n")
@@ -72,24 +73,31 @@ fn last_events(history: &History) -> Vec<Event> {
 
 /// Posts events to an account of which nothing is known: a refused event leaves it as it was, and once the core saw
 /// that it is none of its own, it sees so at every event and question.
-fn post_on(account: Account, events: &[Event]) -> Result<bool, String> {
+fn post_on(
+    account: Account,
+    events: &[Event],
+    post: fn(&mut Account, Event) -> Answer,
+) -> Result<bool, String> {
     let mut memory = Surrounded::by(account);
     let mut seen = false;
     for &event in events {
         let before = memory.account.clone();
-        let answer = memory.account.post(event);
+        let answer = post(&mut memory.account, event);
         // It has to answer; what it tells is laid down only where it is seen to be no account.
         let told = Told::by_account(&memory.account);
+        let asked = days::asked(&[]);
+        let for_days = days::by_account(memory.account.words(), &asked);
+        let is_none = told == Told::by_no_account() && for_days == days::by_no_account(&asked);
         let changed = bytes::differing(&before, &memory.account);
         let fine = match answer {
             Answer::Accepted(_) => !seen,
-            Answer::Refused(0) => changed.is_empty() && told == Told::by_no_account(),
+            Answer::Refused(0) => changed.is_empty() && is_none,
             Answer::Refused(number) => !seen && number <= 19 && changed.is_empty(),
         };
         if !fine || !memory.is_untouched_around() {
             let event = show::event(event);
             return Err(format!(
-                "{event}: {answer:?}, changed {changed:?}, {told:?}"
+                "{event}: {answer:?}, changed {changed:?}, {told:?}, {for_days:?}"
             ));
         }
         seen = answer == Answer::Refused(0);
@@ -123,7 +131,37 @@ mod tests {
         let mut account = Account::fresh();
         account.post(bill(7, 6_000));
         let odd = turn(&account, &[(word, bits)]);
-        post_on(odd, &[payment(8, 1), bill(8, 1)]).unwrap()
+        post_on(odd, &[payment(8, 1), bill(8, 1)], Account::post).unwrap()
+    }
+
+    #[test]
+    fn a_posting_that_does_not_keep_to_it_is_seen() {
+        let events = [payment(8, 1), cut(8), bill(8, 1)];
+        let is_seen = |account: &Account, post| post_on(account.clone(), &events, post).is_err();
+        let (fresh, none) = (Account::fresh(), Account::from_words([u64::MAX; WORDS]));
+        assert!(!is_seen(&fresh, Account::post));
+        assert!(!is_seen(&none, Account::post));
+        // What is no account takes something, is refused by the table, or is changed; an account is said to be none.
+        assert!(is_seen(&none, |account, event| match event.kind {
+            1 => Answer::Accepted(0),
+            _ => account.post(event),
+        }));
+        assert!(is_seen(&none, |account, event| match event.kind {
+            1 => Answer::Refused(18),
+            _ => account.post(event),
+        }));
+        assert!(is_seen(&none, |account, event| {
+            let answer = account.post(event);
+            *account = Account::from_words([u64::MAX - 1; WORDS]);
+            answer
+        }));
+        assert!(is_seen(&fresh, |_, _| Answer::Refused(0)));
+        // A refusal has a number of the table, and leaves the account as it was.
+        assert!(is_seen(&fresh, |_, _| Answer::Refused(20)));
+        assert!(is_seen(&fresh, |account, event| {
+            account.post(payment(event.day, 1));
+            Answer::Refused(12)
+        }));
     }
 
     #[test]

@@ -1,12 +1,12 @@
 //! What is refused: the rows asked in the order of their numbers.
 use super::arrangement::stands;
 use super::collection::{called, live_notice, notice_allows, service, Service, ARREARS};
+use super::days;
 use super::deposit::{earned, full_since, held, required};
 use super::kind::*;
 use super::medical::{approved, certified};
 use super::money::{charge, received, received_in_all, Money};
 use super::receipts::returnable;
-use super::LAST_DAY;
 use tools::event::Event;
 
 /// The largest amount A.
@@ -28,8 +28,7 @@ pub fn refusal(accepted: &[Event], event: Event) -> u8 {
 fn refuses(row: u8, accepted: &[Event], money: &Money, event: Event) -> bool {
     let Event { kind, day, .. } = event;
     match (row, kind) {
-        (1, _) => day > LAST_DAY,
-        (2, _) => accepted.last().is_some_and(|last| day < last.day),
+        (1 | 2, _) => days::refusal(accepted, day) == Some(row),
         (3, _) => !well_formed(event),
         (4, PAYMENT | RETURNED | PAYOUT) => false,
         (4, _) => service(accepted) == Service::Closed,

@@ -84,6 +84,61 @@ fn rows_one_to_five() {
 }
 
 #[test]
+fn fees_are_those_of_the_table() {
+    let fees = [7_500, 15_000, 3_000, 1_500, 2_500, 2_000, 7_500];
+    for (number, amount) in (1..).zip(fees) {
+        assert_eq!(money::fee(number), amount, "fee {number}");
+    }
+}
+
+#[test]
+fn row_three_at_the_ends_of_each_range() {
+    let most = 10_000_000_000;
+    // Kind, the ends of its option, the ends of its amount.
+    let ranges = [
+        (1, (0, 0), (1, most)),
+        (2, (0, 0), (1, most)),
+        (3, (0, 0), (1, u64::MAX)),
+        (4, (1, 3), (0, 0)),
+        (5, (0, 0), (1, 100_000_000)),
+        (6, (0, 0), (1, most)),
+        (7, (0, 0), (0, 0)),
+        (8, (0, 0), (1, most)),
+        (9, (0, 0), (1, 180)),
+        (10, (0, 0), (1, 30)),
+        (11, (2, 6), (0, 0)),
+        (12, (0, 0), (0, 0)),
+        (13, (0, 0), (0, 0)),
+        (14, (0, 0), (0, 0)),
+        (15, (0, 1), (0, 0)),
+        (16, (0, 0), (0, 0)),
+    ];
+    for (kind, (least, greatest), (from, to)) in ranges {
+        let fits = |option: u8, amount| last_answer(&[Event::new(kind, option, 0, amount)]) != 3;
+        assert!(fits(least, from) && fits(greatest, to), "kind {kind}");
+        assert!(least == 0 || !fits(least - 1, from), "kind {kind}");
+        assert!(from == 0 || !fits(least, from - 1), "kind {kind}");
+        assert!(!fits(greatest + 1, to), "kind {kind}");
+        assert!(to == u64::MAX || !fits(greatest, to + 1), "kind {kind}");
+    }
+}
+
+#[test]
+fn row_six_at_the_newest_32() {
+    let mut payments = vec![payment(0, 10); 40];
+    for receipt in 1..=41 {
+        payments.push(returned(0, receipt));
+        let answer = last_answer(&payments);
+        assert_eq!(
+            answer == 0,
+            (9..=40).contains(&receipt),
+            "receipt {receipt}"
+        );
+        payments.pop();
+    }
+}
+
+#[test]
 fn rows_six_and_seven() {
     assert_eq!(last_answer(&[returned(0, 1)]), 6);
     let once = [payment(0, 10), returned(0, 1), returned(0, 1)];
@@ -156,6 +211,164 @@ fn row_nineteen_on_both_sides() {
     assert_eq!(last_answer(&history), 0);
 }
 
+/// What is told for a day after events that are all accepted.
+fn on(events: &[Event], day: u32) -> days::Told {
+    told(events, day).unwrap()
+}
+
+fn told(events: &[Event], day: u32) -> Result<days::Told, u8> {
+    let accepted = post_all(events).accepted;
+    assert_eq!(accepted, events);
+    days::told(&accepted, &Money::of(&accepted), accepted.len(), day)
+}
+
+#[test]
+fn a_question_for_a_day_is_refused_as_an_event_is() {
+    let events = [bill(0, 6_000), call(100)];
+    for day in [0, 99, 100, 101, 73_048, 73_049, u32::MAX] {
+        let answer = last_answer(&[&events[..], &[call(day)]].concat());
+        assert_eq!(told(&events, day).err().unwrap_or(0), answer, "day {day}");
+    }
+    assert_eq!(told(&events, 99), Err(2));
+    assert_eq!(told(&events, 73_049), Err(1));
+    assert_eq!(told(&[], 73_049), Err(1));
+    let nothing = days::Told {
+        arrears: 0,
+        in_force: false,
+        notice_live: false,
+        certified: false,
+    };
+    assert_eq!(
+        (told(&[], 0), told(&[], 73_048)),
+        (Ok(nothing), Ok(nothing))
+    );
+}
+
+#[test]
+fn arrears_are_unpaid_parts_of_items_of_20_days() {
+    let events = [bill(0, 6_000), bill(10, 1_000), payment(10, 2_000)];
+    // The second bill has a late charge of 45.
+    for (day, arrears) in [
+        (19, 0),
+        (20, 4_000),
+        (29, 4_000),
+        (30, 5_045),
+        (73_048, 5_045),
+    ] {
+        assert_eq!(on(&events, day).arrears, arrears, "day {day}");
+    }
+    let all = [
+        bill(0, 6_000),
+        notice(20),
+        call(24),
+        cut(25),
+        payment(25, 6_000),
+        reconnection(25, 1),
+    ];
+    // The fees of the notice and of the reconnection, each on its own day and 20.
+    for (day, arrears) in [(39, 0), (40, 1_500), (44, 1_500), (45, 9_000)] {
+        assert_eq!(on(&all, day).arrears, arrears, "day {day}");
+    }
+}
+
+#[test]
+fn an_arrangement_is_in_force_while_it_is_paid() {
+    let made = [bill(0, 1_000), arrangement(20, 3)];
+    let in_force = |events: &[Event], days: &[u32]| -> Vec<bool> {
+        let events = [&made[..], events].concat();
+        days.iter().map(|&day| on(&events, day).in_force).collect()
+    };
+    // A third of 1,000 is rounded up to 334; of the last part only 332 are left.
+    assert_eq!(in_force(&[], &[20, 49, 50]), [true, true, false]);
+    assert_eq!(in_force(&[payment(20, 333)], &[49, 50]), [true, false]);
+    assert_eq!(
+        in_force(&[payment(20, 334)], &[50, 79, 80]),
+        [true, true, false]
+    );
+    assert_eq!(in_force(&[payment(20, 667)], &[79, 80]), [true, false]);
+    assert_eq!(
+        in_force(&[payment(20, 668)], &[80, 109, 110]),
+        [true, true, false]
+    );
+    assert_eq!(in_force(&[payment(20, 1_000)], &[109, 110]), [true, false]);
+    // Catching up makes it stand again.
+    assert_eq!(
+        in_force(&[call(60), payment(60, 334)], &[60, 79, 80]),
+        [true, true, false]
+    );
+    // A returned payment does not count, nor does its fee.
+    let returned = [payment(20, 334), returned(20, 1), payment(20, 333)];
+    assert_eq!(in_force(&returned, &[49, 50]), [true, false]);
+}
+
+#[test]
+fn a_new_arrangement_replaces_the_old_for_good() {
+    let debt = [bill(0, 1_000), arrangement(20, 6), arrangement(50, 2)];
+    for (day, stands) in [
+        (50, true),
+        (79, true),
+        (80, false),
+        (109, false),
+        (199, false),
+    ] {
+        assert_eq!(on(&debt, day).in_force, stands, "day {day}");
+    }
+    let paid = [&debt[..], &[payment(50, 1_000)]].concat();
+    assert_eq!([109, 110].map(|day| on(&paid, day).in_force), [true, false]);
+}
+
+#[test]
+fn a_notice_is_live_for_20_days_unless_it_lapses_or_is_used() {
+    let start = [bill(0, 6_000), notice(20)];
+    let live = |events: &[Event], day| on(&[&start[..], events].concat(), day).notice_live;
+    assert_eq!([20, 40, 41].map(|day| live(&[], day)), [true, true, false]);
+    assert!(!on(&start[..1], 20).notice_live);
+    // Arrears of 5,000 keep it, a cent less lets it lapse, and it does not come back with later arrears.
+    assert!(live(&[payment(22, 1_000)], 22));
+    assert!(!live(&[payment(22, 1_001)], 22));
+    assert!(!live(&[payment(22, 1_001), returned(22, 1)], 40));
+    let used = [call(24), cut(25)];
+    assert!(live(&used[..1], 25));
+    assert!(!live(&used, 25));
+}
+
+#[test]
+fn a_certificate_is_live_on_as_many_days_as_it_has() {
+    let certified = |events: &[Event], day| on(events, day).certified;
+    for days in [1, 5, 179, 180] {
+        let events = [certificate(10, days)];
+        let end = 10 + days as u32;
+        assert_eq!(
+            [10, end - 1, end].map(|day| certified(&events, day)),
+            [true, true, false]
+        );
+    }
+    // Earlier ones run on, and an approval ends none.
+    let events = [certificate(10, 20), certificate(11, 2), approval(12, 30)];
+    assert_eq!(
+        [13, 29, 30].map(|day| certified(&events, day)),
+        [true, true, false]
+    );
+    assert!(!certified(&[approval(10, 30)], 10));
+}
+
+#[test]
+fn the_deposit_required_is_the_last_asked_until_it_is_moved() {
+    let asked = |events: &[Event]| deposit::required(&post_all(events).accepted);
+    assert_eq!(asked(&[]), 0);
+    let events = [
+        deposit_asked(0, 70),
+        deposit_asked(1, 50),
+        deposit_paid(2, 50),
+        deposit_moved(367),
+    ];
+    assert_eq!(
+        [1, 2, 3, 4].map(|count| asked(&events[..count])),
+        [70, 50, 50, 0]
+    );
+    assert_eq!(asked(&[&events[..3], &[close(3)]].concat()), 0);
+}
+
 #[test]
 fn the_worked_example_is_printed() {
     let events = vec![
@@ -190,6 +403,8 @@ fn a_bad_book_prints_its_number() {
 fn a_longer_file_is_refused() {
     let longest = writer::encode(&[vec![bill(0, 1); 4_095]]);
     assert_eq!(longest.len(), book::LONGEST_FILE);
+    assert_eq!(standing(&longest), report(&longest));
+    assert!(standing(&longest).ends_with(b" 64 on 4031\n"));
     let longer = writer::encode(&[vec![call(0); 4_096]]);
     assert_eq!(standing(&longer), b"book refused 20\n");
     assert!(report(&longer).starts_with(b"account"));

@@ -34,6 +34,15 @@ impl Answer {
     }
 }
 
+/// What is told for a day: a number, or the one that refuses the day. That is 1 past the last day, 2 before the last
+/// accepted event, and 0 where no account was lent.
+fn told(number: u64) -> Result<u64, u8> {
+    match Answer::of(number) {
+        Answer::Accepted(told) => Ok(told),
+        Answer::Refused(number) => Err(number),
+    }
+}
+
 /// A charge that is not paid in full.
 #[derive(Clone, Copy, Debug, PartialEq, Eq)]
 pub struct OpenItem {
@@ -97,6 +106,26 @@ impl Account {
         (0..self.open_count() as usize).map(|index| self.open_item(index))
     }
 
+    /// The arrears on a day, in cents, or the number that refuses the day.
+    pub fn arrears(&self, day: u32) -> Result<u64, u8> {
+        told(lent::arrears(&self.words, day))
+    }
+
+    /// Whether a payment arrangement is in force on a day.
+    pub fn in_force(&self, day: u32) -> Result<bool, u8> {
+        told(lent::in_force(&self.words, day)).map(|yes| yes == 1)
+    }
+
+    /// Whether a final notice is live on a day.
+    pub fn notice_live(&self, day: u32) -> Result<bool, u8> {
+        told(lent::notice_live(&self.words, day)).map(|yes| yes == 1)
+    }
+
+    /// Whether a medical certificate is live on a day.
+    pub fn certified(&self, day: u32) -> Result<bool, u8> {
+        told(lent::certified(&self.words, day)).map(|yes| yes == 1)
+    }
+
     /// The account as it lies in memory, for keeping it elsewhere.
     pub fn words(&self) -> &[u64; WORDS] {
         &self.words
@@ -106,6 +135,12 @@ impl Account {
     /// is said of them means nothing.
     pub fn from_words(words: [u64; WORDS]) -> Account {
         Account { words }
+    }
+}
+
+impl Default for Account {
+    fn default() -> Account {
+        Account::fresh()
     }
 }
 

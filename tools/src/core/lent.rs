@@ -5,7 +5,8 @@ use crate::event::Event;
 /// How many words of 64 bits an account takes. include/hollupaq.h has the same number.
 pub const WORDS: usize = 187;
 
-/// An answer from here on is an acceptance, and what is above it the receipt of a payment. One below is a refusal.
+/// An answer from here on is an acceptance, and what is above it the receipt of a payment, or what is told for a day. One below
+/// is a refusal.
 pub const ACCEPTED: u64 = 256;
 
 extern "C" {
@@ -36,6 +37,10 @@ extern "C" {
     fn hollupaq_open_count(account: *const u64, words: usize) -> u64;
     fn hollupaq_open_day(account: *const u64, words: usize, index: usize) -> u64;
     fn hollupaq_open_unpaid(account: *const u64, words: usize, index: usize) -> u64;
+    fn hollupaq_arrears(account: *const u64, words: usize, day: u32) -> u64;
+    fn hollupaq_in_force(account: *const u64, words: usize, day: u32) -> u64;
+    fn hollupaq_notice_live(account: *const u64, words: usize, day: u32) -> u64;
+    fn hollupaq_certified(account: *const u64, words: usize, day: u32) -> u64;
 }
 
 // SAFETY of every call here: the slice is valid for its length while the call lasts, whatever its words are. Nobody else
@@ -111,4 +116,27 @@ pub fn open_day(account: &[u64], index: usize) -> u64 {
 /// What of it is unpaid, in cents; 0 past the last one.
 pub fn open_unpaid(account: &[u64], index: usize) -> u64 {
     unsafe { hollupaq_open_unpaid(account.as_ptr(), account.len(), index) }
+}
+
+// For a day: [`ACCEPTED`] and the cents, or 1 for yes and 0 for no; below it the number that refuses the day, as it would an
+// event's.
+
+/// The arrears on a day, in cents.
+pub fn arrears(account: &[u64], day: u32) -> u64 {
+    unsafe { hollupaq_arrears(account.as_ptr(), account.len(), day) }
+}
+
+/// Whether a payment arrangement is in force on a day.
+pub fn in_force(account: &[u64], day: u32) -> u64 {
+    unsafe { hollupaq_in_force(account.as_ptr(), account.len(), day) }
+}
+
+/// Whether a final notice is live on a day.
+pub fn notice_live(account: &[u64], day: u32) -> u64 {
+    unsafe { hollupaq_notice_live(account.as_ptr(), account.len(), day) }
+}
+
+/// Whether a medical certificate is live on a day.
+pub fn certified(account: &[u64], day: u32) -> u64 {
+    unsafe { hollupaq_certified(account.as_ptr(), account.len(), day) }
 }
