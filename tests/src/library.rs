@@ -135,7 +135,7 @@ mod tests {
     use crate::make::{bill, cut, payment};
 
     fn book() -> Vec<u8> {
-        tools::book::encode(&[vec![bill(100, 10_000), payment(131, 4_000), cut(131)]])
+        encode(&[vec![bill(100, 10_000), payment(131, 4_000), cut(131)]])
     }
 
     const ANY_LENGTH: [Lent; 5] = [
