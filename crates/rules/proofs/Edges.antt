@@ -26,7 +26,7 @@ abbrev pub rich : List Event
 rich = times 99 (payment 0 10000000000 ∷ [])
 
 -- bills of 990,000,000,000, each paid
-abbrev pub settled : List Event
+abbrev settled : List Event
 settled = times 99 (bill 0 10000000000 ∷ payment 0 10000000000 ∷ [])
 
 abbrev days : List Case

@@ -1,18 +1,27 @@
 -- Our own cases: where several rows refuse an event, the lowest number answers. In each case as many of them refuse as can meet;
 -- rows 1 and 2 never do.
+use Prim.Native.Nat.{ℕ}
 use mathlib.Core.List.{List, [], _∷_, _++_}
 use Rattle.rules.specs.declared.Event.{Event}
 use Rattle.rules.proofs.Events.{event, bill, payment, returned, fee, asked, paid, moved, certificate, arrangement, notice, call, cut, reconnection, close, times, Case, ends}
 use Rattle.rules.proofs.Paper.{b, d}
-use Rattle.rules.proofs.Edges.{full, rich, settled}
+use Rattle.rules.proofs.Edges.{full, rich}
 
--- C at the limit, and 64 open items of day 0: rows 18 and 19 refuse every new item
+-- n bills, each paid: C grows, and nothing is owed
+abbrev paidBills : ℕ → List Event
+paidBills n = times n (bill 0 10000000000 ∷ payment 0 10000000000 ∷ [])
+
+-- C at the limit by late charges too, and 64 open items of day 0: rows 18 and 19 refuse every new item
 abbrev brim : List Event
-brim = settled ++ (bill 0 9999527500 ∷ times 63 (fee 0 1 ∷ []))
+brim = paidBills 19 ++ times 63 (bill 0 10000000000 ∷ []) ++ (bill 0 2423303858 ∷ [])
 
--- the same with service off
+-- a live notice, and one fee short of the same
+abbrev warned : List Event
+warned = paidBills 22 ++ times 61 (bill 0 10000000000 ∷ []) ++ (bill 0 4327575168 ∷ notice 20 ∷ [])
+
+-- the same as at the brim, with service off
 abbrev off : List Event
-off = settled ++ (bill 0 9999533500 ∷ notice 20 ∷ call 22 ∷ cut 25 ∷ times 62 (fee 25 1 ∷ []))
+off = warned ++ (call 22 ∷ cut 25 ∷ fee 25 1 ∷ [])
 
 -- small arrears, an arrangement in force and a certificate: rows 10 and 12 to 15 refuse a cut
 abbrev guarded : List Event
@@ -35,8 +44,8 @@ orders =
     ∷ ends "fee: 4 before 18 and 19" (brim ++ (close 0 ∷ fee 0 1 ∷ [])) 4
     ∷ ends "fee: 18 before 19" (brim ++ (fee 0 1 ∷ [])) 18
     -- returned payment
-    ∷ ends "returned: 6 before 18 and 19" (brim ++ (returned 0 100 ∷ [])) 6
-    ∷ ends "returned: 18 before 19" (brim ++ (returned 0 99 ∷ [])) 18
+    ∷ ends "returned: 6 before 18 and 19" (brim ++ (returned 0 20 ∷ [])) 6
+    ∷ ends "returned: 18 before 19" (brim ++ (returned 0 19 ∷ [])) 18
     -- deposits
     ∷ ends "deposit paid: 4 before 7" (close 0 ∷ paid 0 1 ∷ []) 4
     ∷ ends "deposit moved: 4 before 7 and 8" (full ++ (close 0 ∷ moved 0 ∷ [])) 4
@@ -50,7 +59,7 @@ orders =
     ∷ ends "notice: 5 before 10" (d ++ (payment 26 7500 ∷ notice 26 ∷ [])) 5
     ∷ ends "notice: 5 before 18 and 19" (off ++ (notice 25 ∷ [])) 5
     ∷ ends "notice: 10 before 18 and 19" (brim ++ (notice 19 ∷ [])) 10
-    ∷ ends "notice: 11 before 18 and 19" (settled ++ (bill 0 9999533500 ∷ notice 20 ∷ (times 62 (fee 20 1 ∷ []) ++ (notice 20 ∷ [])))) 11
+    ∷ ends "notice: 11 before 18 and 19" (warned ++ (fee 20 1 ∷ notice 20 ∷ [])) 11
     ∷ ends "notice: 18 before 19" (brim ++ (notice 20 ∷ [])) 18
     -- call
     ∷ ends "call: 4 before 5" (close 0 ∷ call 0 ∷ []) 4
