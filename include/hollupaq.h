@@ -1,6 +1,7 @@
 /*
  * Hollupaq: the standing of utility accounts, from a book file in memory, or of
- * an account that the caller keeps and posts to, one event at a time.
+ * an account that the caller keeps and posts to, one event at a time; and book
+ * files made of account lists, and read back.
  *
  * The functions are those of the proved core in libhollupaq.a. They keep no
  * state and no pointer and allocate nothing: a book lies in the caller's
@@ -9,9 +10,9 @@
  * once, as long as no two of them write to the same memory, and none writes to
  * a book or an account that another reads.
  *
- * The book and the memory for output of one call must not overlap, nor two
- * pieces of memory for output. No pointer may be null, not even where its
- * length is 0: pass a valid one then too.
+ * What a call reads and its memory for output must not overlap, nor two pieces
+ * of memory for output. No pointer may be null, not even where its length is 0:
+ * pass a valid one then too.
  */
 #ifndef HOLLUPAQ_H
 #define HOLLUPAQ_H
@@ -66,6 +67,61 @@ uint64_t hollupaq_report(const uint8_t *book, size_t book_len,
 uint8_t hollupaq_history(const uint8_t *book, size_t book_len, size_t account,
                          uint8_t *numbers, size_t numbers_len,
                          int64_t *owed, size_t owed_len);
+
+/* An answer from here on is an acceptance; one below it a refusal. */
+#define HOLLUPAQ_ACCEPTED 256
+
+/*
+ * The test of a book: how many accounts it has, and how many records they have
+ * together. Returns HOLLUPAQ_ACCEPTED and that number added to it, or 20 or 21
+ * where the book is refused.
+ */
+uint64_t hollupaq_book_accounts(const uint8_t *book, size_t book_len);
+uint64_t hollupaq_book_records(const uint8_t *book, size_t book_len);
+
+/*
+ * An account list is five pieces of memory: how many records each account has
+ * (counts), and the kinds, options, days and amounts of all records, one
+ * account after the other. Each is lent as a pointer and a length in elements.
+ */
+
+/*
+ * Reads the account list of a book, before any posting.
+ *
+ * Returns 0 when this is done; what lies behind the list is left as it was.
+ * Returns 20 or 21 where the book is refused, and 22 where `counts` is shorter
+ * than the book has accounts, or one of the others than it has records; then
+ * nothing is written.
+ */
+uint8_t hollupaq_book_read(const uint8_t *book, size_t book_len,
+                           uint32_t *counts, size_t counts_len,
+                           uint8_t *kinds, size_t kinds_len,
+                           uint8_t *options, size_t options_len,
+                           uint32_t *days, size_t days_len,
+                           uint64_t *amounts, size_t amounts_len);
+
+/* The length of a book of so many accounts and records. */
+#define HOLLUPAQ_BOOK_ROOM(accounts, records) \
+    (8 + 8 * (size_t)(accounts) + 16 * (size_t)(records))
+
+/*
+ * Writes the book of an account list. What hollupaq_book_read gave is written
+ * as the same book, byte for byte, and what this wrote is read as the same
+ * list.
+ *
+ * Returns HOLLUPAQ_ACCEPTED and the length of the book added to it; what lies
+ * behind the book is left as it was. Returns 20 where there are more accounts
+ * than HOLLUPAQ_MOST_ACCOUNTS, where the counts do not add up to the records,
+ * where the four pieces of the records differ in length, or where the book
+ * would be longer than 4,294,967,295 bytes; 21 where a kind is unknown; and 22
+ * where `out` is shorter than the book. Then nothing is written.
+ */
+uint64_t hollupaq_book_write(const uint32_t *counts, size_t counts_len,
+                             const uint8_t *kinds, size_t kinds_len,
+                             const uint8_t *options, size_t options_len,
+                             const uint32_t *days, size_t days_len,
+                             const uint64_t *amounts, size_t amounts_len,
+                             uint8_t *out, size_t out_len);
 
 /* How many words of 64 bits an account takes. */
 #define HOLLUPAQ_WORDS 187
@@ -122,9 +178,6 @@ uint64_t hollupaq_words(void);
  * HOLLUPAQ_WORDS.
  */
 uint8_t hollupaq_fresh(uint64_t *account, size_t words);
-
-/* An answer from here on is an acceptance; one below it a refusal. */
-#define HOLLUPAQ_ACCEPTED 256
 
 /*
  * Posts one event, of any kind and any numbers. Day 0 is 1 January 2000.

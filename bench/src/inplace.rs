@@ -643,7 +643,7 @@ mod tests {
     use super::*;
     use ::tests::books;
     use std::collections::BTreeSet;
-    use tools::{book, core};
+    use tools::core;
 
     /// What is answered to the events of an account, and what is owed after each.
     fn replies(book: &[u8], account: usize) -> Vec<core::Reply> {
@@ -659,9 +659,9 @@ mod tests {
     fn it_answers_as_the_core_does() {
         let mut numbers = BTreeSet::new();
         for index in 0..1_500 {
-            let book = book::encode(&books::book(2, index).list());
-            if book_refusal(&book) == 0 {
-                for account in 0..book::accounts(&book) {
+            let list = books::book(2, index).list();
+            if let Ok(book) = core::books::write(&list) {
+                for account in 0..list.len() {
                     let by_core = core::history(&book, account).unwrap();
                     assert_eq!(replies(&book, account), by_core, "book {index}");
                     numbers.extend(by_core.iter().map(|reply| reply.number));

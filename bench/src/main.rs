@@ -11,7 +11,7 @@ use row::{Goal, Times};
 use std::hint::black_box;
 use std::process::ExitCode;
 use tools::event::Event;
-use tools::{book, core};
+use tools::{core, words};
 
 /// What a row may take at most, to the rules in place.
 const STANDING_GOAL: Goal = Goal::of(2.0).with_wish(1.5);
@@ -63,6 +63,10 @@ fn many_accounts() -> Vec<Vec<Event>> {
         .collect()
 }
 
+fn book_of(list: &[Vec<Event>]) -> Result<Vec<u8>, String> {
+    core::books::write(list).map_err(words::list_refused)
+}
+
 /// Both texts have to be equal before anything is timed.
 fn compare(book: &[u8]) -> Result<(), String> {
     let mut out = vec![0; core::report_room(book)];
@@ -75,7 +79,7 @@ fn compare(book: &[u8]) -> Result<(), String> {
 }
 
 fn standing(name: &str, goal: Goal, list: &[Vec<Event>]) -> Result<Times, String> {
-    let book = book::encode(list);
+    let book = book_of(list)?;
     compare(&book)?;
     let mut out = vec![0; core::report_room(&book)];
     let mut other = out.clone();
@@ -98,7 +102,7 @@ fn kept(name: &str, events: &[Event]) -> Result<(), String> {
 }
 
 fn by_value(name: &str, events: &[Event]) -> Result<(), String> {
-    let book = book::encode(&[events.to_vec()]);
+    let book = book_of(&[events.to_vec()])?;
     let times = posting::by_value(&book, events.len())?;
     times.show(name, BY_VALUE_GOAL, events.len());
     Ok(())
@@ -113,8 +117,8 @@ fn growth(name: &str, events: impl Fn(u64, usize) -> Vec<Event>) -> Result<(), S
     let mut tasks = Vec::new();
     for records in sizes {
         let books: Vec<Vec<u8>> = (0..GROWTH_EVENTS / records as u64)
-            .map(|seed| book::encode(&[events(seed, records)]))
-            .collect();
+            .map(|seed| book_of(&[events(seed, records)]))
+            .collect::<Result<_, _>>()?;
         books.iter().try_for_each(|book| compare(book))?;
         tasks.push(all_reports(books));
     }

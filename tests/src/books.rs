@@ -3,8 +3,8 @@ use crate::damage;
 use crate::generator::{history, History};
 use crate::make::call;
 use crate::peer::book::LONGEST_FILE;
+use crate::peer::writer::{encode, ENTRY, HEADER, RECORD};
 use crate::random::Random;
-use tools::book::{encode, ENTRY, HEADER, RECORD};
 use tools::event::Event;
 
 /// A book and the histories that it was made of.

@@ -1,6 +1,6 @@
 //! Books with something wrong in them.
+use crate::peer::writer::{encode, ENTRY, HEADER, RECORD};
 use crate::random::Random;
-use tools::book::{encode, ENTRY, HEADER, RECORD};
 use tools::event::Event;
 
 /// A book with one or two things changed. What they do to it is not asked here: some leave it a good book.

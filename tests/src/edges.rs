@@ -19,7 +19,7 @@ pub struct Case<'a> {
 type Edge = (&'static str, fn(&Case) -> bool);
 
 /// A name for each bound and what meets it.
-pub const EDGES: [Edge; 69] = [
+pub const EDGES: [Edge; 72] = [
     ("final notice at arrears of 5,000", |c| {
         c.is(NOTICE, 0) && c.arrears() == 5_000
     }),
@@ -146,6 +146,15 @@ pub const EDGES: [Edge; 69] = [
     }),
     ("deposit moved with a third notice 365 days before", |c| {
         c.is(DEPOSIT_MOVED, 0) && c.year(NOTICE) == 2 && c.some_ago(NOTICE, 365)
+    }),
+    ("deposit moved on the day of a second notice", |c| {
+        c.is(DEPOSIT_MOVED, 0) && c.year(NOTICE) == 2 && c.ago(NOTICE, 0)
+    }),
+    ("deposit refused on the day of a third notice", |c| {
+        c.is(DEPOSIT_MOVED, 8) && c.long_full() && c.only_notices(3) && c.ago(NOTICE, 0)
+    }),
+    ("deposit refused on the day of a cut", |c| {
+        c.is(DEPOSIT_MOVED, 8) && c.long_full() && c.year(NOTICE) <= 2 && c.ago(CUT, 0)
     }),
     ("deposit refused for a cut 364 days before", |c| {
         c.is(DEPOSIT_MOVED, 8) && c.long_full() && c.ago(CUT, 364)
@@ -373,6 +382,11 @@ impl Case<'_> {
 
     fn year(&self, kind: u8) -> usize {
         in_a_year(self.accepted, kind, self.event.day)
+    }
+
+    /// Whether there were so many notices in the year, and no cut that would bar a move too.
+    fn only_notices(&self, count: usize) -> bool {
+        self.year(NOTICE) == count && self.year(CUT) == 0
     }
 
     /// What is required and not yet held.

@@ -8,6 +8,7 @@ pub mod edges;
 pub mod generator;
 pub mod kept;
 pub mod library;
+pub mod lists;
 pub mod make;
 pub mod peer;
 pub mod program;

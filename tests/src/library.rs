@@ -1,6 +1,7 @@
 //! The core by its static library against the peer, book by book.
 use crate::books::Book;
 use crate::peer::money::Money;
+use crate::peer::writer::encode;
 use crate::peer::{self, post_all, Posted};
 use crate::{show, shrink};
 use tools::core;
@@ -12,7 +13,7 @@ const ROOM: usize = 131_072;
 const FILL: u8 = 165;
 
 /// What a call costs beside its events, in the units of the shrinking.
-const TRY: u64 = 10_000;
+pub const TRY: u64 = 10_000;
 
 /// What the core writes for a book, where it writes anything.
 fn report(book: &[u8]) -> Option<Vec<u8>> {
@@ -39,11 +40,11 @@ pub fn compare_report(book: &[u8], expected: &[u8]) -> Option<String> {
 
 /// Shrinks a book as a list of events where it is one, else as bytes, and puts it in words.
 pub fn shrink_book(book: &[u8], each: u64, differs: &dyn Fn(&[u8]) -> bool) -> (Vec<u8>, String) {
-    let by_list = |list: &[Vec<Event>]| differs(&tools::book::encode(list));
+    let by_list = |list: &[Vec<Event>]| differs(&encode(list));
     match peer::book::accounts(book) {
         Ok(list) if by_list(&list) => {
             let small = shrink::list(list, each, &by_list);
-            (tools::book::encode(&small), show::accounts(&small))
+            (encode(&small), show::accounts(&small))
         }
         _ => {
             let small = shrink::bytes(book.to_vec(), each, differs);
@@ -113,13 +114,13 @@ pub fn compare_history(book: &Book, account: usize) -> Option<String> {
         return None;
     }
     let alone = |list: &[Vec<Event>]| {
-        let book = tools::book::encode(list);
+        let book = encode(list);
         (0..list.len()).any(|at| core_replies(&book, at) != Ok(replies(&post_all(&list[at]))))
     };
     let small = shrink::list(book.list(), TRY, &alone);
     let mut text = show::accounts(&small);
     for (at, events) in small.iter().enumerate() {
-        let found = core_replies(&tools::book::encode(&small), at);
+        let found = core_replies(&encode(&small), at);
         let expected = replies(&post_all(events));
         text += &format!("  account {at}, numbers with what is owed\n");
         text += &format!("    expected: {expected:?}\n    found: {found:?}\n");
@@ -134,7 +135,7 @@ mod tests {
     use crate::make::{bill, cut, payment};
 
     fn book() -> Vec<u8> {
-        tools::book::encode(&[vec![bill(100, 10_000), payment(131, 4_000), cut(131)]])
+        encode(&[vec![bill(100, 10_000), payment(131, 4_000), cut(131)]])
     }
 
     const ANY_LENGTH: [Lent; 5] = [

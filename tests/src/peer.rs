@@ -14,6 +14,7 @@ pub mod receipts;
 pub mod rows;
 #[cfg(test)]
 mod tests;
+pub mod writer;
 
 pub use book::{report, standing};
 pub use rows::refusal;

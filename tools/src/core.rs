@@ -1,8 +1,8 @@
 //! The proved core, called through its static library (`rt staticlib hollupaq`).
 mod account;
+pub mod books;
 pub mod lent;
 
-use crate::book;
 pub use account::{Account, Accounts, Answer, OpenItem};
 
 extern "C" {
@@ -22,7 +22,6 @@ extern "C" {
 /// The longest header line of a report, and the longest line of an account.
 const REPORT_HEADER: usize = 39;
 const REPORT_LINE: usize = 113;
-const MOST_ACCOUNTS: usize = 1_024;
 
 /// The answer to one event, and what is owed after it.
 #[derive(Clone, Copy, Debug, PartialEq, Eq)]
@@ -42,9 +41,9 @@ pub fn report_into(book: &[u8], out: &mut [u8]) -> Option<usize> {
     (written != 0).then_some(written as usize)
 }
 
-/// The room that a book's report needs at most.
+/// The room that a book's report needs at most. The line of a refused book is shorter than the header.
 pub fn report_room(book: &[u8]) -> usize {
-    REPORT_HEADER + REPORT_LINE * book::accounts(book).min(MOST_ACCOUNTS)
+    REPORT_HEADER + REPORT_LINE * books::accounts(book).unwrap_or(0)
 }
 
 /// The standing of a book's accounts, or the line that says why the book is refused.
@@ -57,7 +56,8 @@ pub fn report(book: &[u8]) -> Vec<u8> {
 
 /// The answers to the events of one account, none where there is no such account; or the number that refuses the book.
 pub fn history(book: &[u8], account: usize) -> Result<Vec<Reply>, u8> {
-    let mut numbers = vec![0; book::count(book, account)];
+    let records = books::read_columns(book)?.counts.get(account).copied();
+    let mut numbers = vec![0; records.unwrap_or(0) as usize];
     let mut owed = vec![0; numbers.len()];
     history_into(book, account, &mut numbers, &mut owed)?;
     let replies = numbers.into_iter().zip(owed);
@@ -90,10 +90,4 @@ pub fn history_into(
         0 => Ok(()),
         number => Err(number),
     }
-}
-
-/// The number that refuses a book, none where it is accepted.
-pub fn book_refusal(book: &[u8]) -> Option<u8> {
-    // No account stands past the last that a table can hold, so that nothing is posted and the book's test answers.
-    history_into(book, MOST_ACCOUNTS, &mut [], &mut []).err()
 }

@@ -1,7 +1,6 @@
-//! What the tools, the tests and the benchmark share: events, service, the book file, its readable text, and the proved
-//! core.
+//! What the tools, the tests and the benchmark share: events, service, the readable text of a book, and the proved core.
 
-pub mod book;
+pub mod columns;
 pub mod command;
 pub mod core;
 pub mod event;

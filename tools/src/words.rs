@@ -36,6 +36,17 @@ pub fn book_refused(number: u8) -> String {
     format!("book refused {number}: {}", meaning(number))
 }
 
+/// Why no book is made of an account list.
+pub fn list_refused(number: u8) -> String {
+    match number {
+        20 => {
+            "book refused 20: more than 1,024 accounts, or more records than a book can hold".into()
+        }
+        21 => "book refused 21: a record has an unknown kind".into(),
+        _ => book_refused(number),
+    }
+}
+
 /// What a refusing number means.
 pub fn meaning(number: u8) -> &'static str {
     usize::from(number)

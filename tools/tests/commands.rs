@@ -58,7 +58,7 @@ fn a_wrong_text_or_book_is_told_in_words() {
     assert!(told.starts_with("bookfile: can't read no-such-file: "));
     let many = "account\n".repeat(1_025);
     let told = complaint(&bookfile(&["pack"], many.as_bytes()), 1);
-    assert!(told.starts_with("bookfile: book refused 20: "));
+    assert!(told.starts_with("bookfile: book refused 20: more than 1,024 accounts"));
 }
 
 #[test]

@@ -1,10 +1,15 @@
 //! The core through its static library: the worked example, and what lent memory looks like after a call.
+use tools::core;
+use tools::core::books;
 use tools::event::Event;
-use tools::{book, core};
+
+fn book_of(list: &[Vec<Event>]) -> Vec<u8> {
+    books::write(list).unwrap()
+}
 
 /// Two bills, a payment and a disconnection without a notice.
 fn worked_example() -> Vec<u8> {
-    book::encode(&[vec![
+    book_of(&[vec![
         Event::of(1, 100, 10_000),
         Event::of(1, 130, 5_000),
         Event::of(2, 131, 4_000),
@@ -16,7 +21,7 @@ const STANDING: &[u8] = b"account owed held open service refused\n0 11075 0 2 on
 
 /// The numbers of an account's history, and what is owed at its end.
 fn answers(events: &[Event]) -> (Vec<u8>, i64) {
-    let replies = core::history(&book::encode(&[events.to_vec()]), 0).unwrap();
+    let replies = core::history(&book_of(&[events.to_vec()]), 0).unwrap();
     let owed = replies.last().map_or(0, |reply| reply.owed);
     (replies.iter().map(|reply| reply.number).collect(), owed)
 }
@@ -53,7 +58,7 @@ fn a_longer_buffer_keeps_its_tail() {
 
 #[test]
 fn a_book_without_accounts_has_a_header_alone() {
-    let book = book::encode(&[]);
+    let book = book_of(&[]);
     let header = b"account owed held open service refused\n";
     assert_eq!(core::report(&book), header);
     assert_eq!(core::history(&book, 0), Ok(vec![]));
@@ -82,9 +87,7 @@ fn refused_books_are_said_by_number() {
         let line = format!("book refused {number}\n");
         assert_eq!(core::report(book), line.as_bytes());
         assert_eq!(core::history(book, 0), Err(number));
-        assert_eq!(core::book_refusal(book), Some(number));
     }
-    assert_eq!(core::book_refusal(&good), None);
 }
 
 #[test]
@@ -92,10 +95,6 @@ fn a_header_of_many_accounts_is_refused_like_others() {
     let mut book = worked_example();
     book[..4].copy_from_slice(&u32::MAX.to_le_bytes());
     assert_eq!(core::report(&book), b"book refused 20\n");
-    let most = book::encode(&vec![vec![]; 1_024]);
-    assert_eq!(core::book_refusal(&most), None);
-    let more = book::encode(&vec![vec![]; 1_025]);
-    assert_eq!(core::book_refusal(&more), Some(20));
 }
 
 #[test]
@@ -131,7 +130,7 @@ fn memory_for_a_history_is_long_enough_or_left_alone() {
 
 #[test]
 fn each_account_has_its_own_history() {
-    let book = book::encode(&[
+    let book = book_of(&[
         vec![Event::of(1, 5, 700)],
         vec![],
         vec![Event::of(2, 6, 300), Event::of(3, 6, 2), Event::of(3, 6, 1)],
@@ -166,7 +165,7 @@ fn the_longest_line_has_room() {
     let mut account = events;
     account.push(Event::of(5, 0, 100_000_000));
     account.push(Event::of(6, 0, 100_000_000));
-    let book = book::encode(&[account.clone(), account]);
+    let book = book_of(&[account.clone(), account]);
     let expected = "account owed held open service refused\n\
         0 -1000000000000 100000000 0 on 0\n1 -1000000000000 100000000 0 on 0\n";
     assert_eq!(core::report(&book), expected.as_bytes());

@@ -1,7 +1,8 @@
 //! The books of examples/: text, book and standing belong together.
 use std::fs;
 use std::path::{Path, PathBuf};
-use tools::{book, core, text};
+use tools::core::books;
+use tools::{core, text};
 
 fn folder() -> PathBuf {
     Path::new(env!("CARGO_MANIFEST_DIR")).join("../examples")
@@ -39,7 +40,7 @@ fn there_are_four() {
 fn each_text_packs_to_its_book() {
     for name in names() {
         let list = text::read(&String::from_utf8(read(&name, "txt")).unwrap()).unwrap();
-        assert_eq!(book::encode(&list), read(&name, "book"), "{name}");
+        assert_eq!(books::write(&list), Ok(read(&name, "book")), "{name}");
     }
 }
 
@@ -47,10 +48,10 @@ fn each_text_packs_to_its_book() {
 fn each_book_unpacks_and_packs_again() {
     for name in names() {
         let book = read(&name, "book");
-        let unpacked = text::write(&book::decode(&book)).unwrap();
+        let unpacked = text::write(&books::read(&book).unwrap()).unwrap();
         assert_eq!(
-            book::encode(&text::read(&unpacked).unwrap()),
-            book,
+            books::write(&text::read(&unpacked).unwrap()),
+            Ok(book),
             "{name}"
         );
     }
@@ -75,7 +76,7 @@ fn the_remarks_tell_what_is_refused() {
             .map(|line| line.contains("# refused"))
             .collect();
         let book = read(&name, "book");
-        let answers: Vec<bool> = (0..book::accounts(&book))
+        let answers: Vec<bool> = (0..books::accounts(&book).unwrap())
             .flat_map(|account| core::history(&book, account).unwrap())
             .map(|reply| reply.number != 0)
             .collect();

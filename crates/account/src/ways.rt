@@ -92,10 +92,10 @@ fn amount_of(m: &[u64], e: Event) -> u64
 {
     if e.kind == BILL {
         let s = ledger::sums_of(&m[LEDGER..WORDS]);
-        let late = amounts::fees::late_charge(basics::less(s.charged, s.credits));
+        let late = amounts::late_charge(basics::less(s.charged, s.credits));
         return basics::plus(e.amount, late);
     }
-    amounts::fees::fee(e.option as u64)
+    amounts::fee(e.option as u64)
 }
 
 // 4: closed; 18: the places of open items are taken; 19: the charges would pass the limit.

@@ -1,10 +1,8 @@
 // The amounts that an event moves, of a View and the event alone: its charge, its credit; in `fees` the fees by number and
 // the late charge. Every function is total, and its contract is an equation with the rules' definition.
-pub mod fees;
+mod fees;
 
-use crate::fees::fee;
-use crate::fees::fee_number;
-use crate::fees::late_charge;
+use fees::fee_number;
 use rules::Event;
 use rules::View;
 use rules::kinds::BILL;
@@ -21,6 +19,8 @@ ghost use Rattle.basics.specs.Machine.{largest};
 ghost use Rattle.rules.specs.Deposit.{moves as movesDeposit};
 ghost use Rattle.rules.specs.Money.{charges as makesItem};
 ghost use Rattle.rules.specs.Table.{chargeOf, creditOf};
+pub use fees::fee;
+pub use fees::late_charge;
 
 // Whether the event makes an item.
 pub fn charges(e: Event) -> bool

@@ -14,7 +14,7 @@ use Rattle.rules.specs.Money.{arrears}
 use Rattle.rules.specs.Arrangement.{Terms, terms, paidSince, returnedSince, inForce}
 use Rattle.rules.specs.Table.{limit}
 use Rattle.rules.specs.Accepted.{Lawful}
-use Rattle.rules.proofs.Sums.{total-since}
+use Rattle.rules.proofs.Sums.{total-grows, total-since}
 use Rattle.rules.proofs.Ranged.{ranged}
 use Rattle.rules.proofs.Passed.{passed}
 use Rattle.rules.proofs.Bounds.{debt-limit, paid-limit, returned-limit}
@@ -27,7 +27,7 @@ said h = record { day = terms h .day; parts = terms h .parts; debt = terms h .de
 
 arrangement-is : (h : History) → arrangementOf h ≡ said h
 unfolding arrangementOf
-arrangement-is [] = refl
+arrangement-is [] = rw (total-grows payment [])
 arrangement-is (e ∷ h) =
     ap (λ a. arrangementAfter a e (arrears h (e .day)) (returnable h (e .amount))) (arrangement-is h)
     ∙ rw (total-since payment (is arrangement) e h) (on (is arrangement e) (λ q. rw q) (λ q. rw q))

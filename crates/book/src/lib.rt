@@ -2,7 +2,6 @@
 use layout::LONGEST;
 use layout::MOST_ACCOUNTS;
 use layout::Span;
-use layout::Tested;
 use layout::event_at;
 use layout::kind_fine;
 use little::get;
@@ -11,7 +10,6 @@ ghost use mathlib.Core.Path.{_≡_};
 ghost use Prim.Native.Nat.{_+_, _*_, _≤_};
 ghost use lib.ListN.{length};
 ghost use Rattle.layout.specs.Book.{base, recordFine, recordsFine, tableFine, headerFine, bookRefusal};
-ghost use Rattle.layout.specs.Answers.{testedAs};
 ghost use Rattle.layout.specs.Finding.{entries as Entries, room as Room, recordAt, recordOf, spanAt, IsAccount};
 
 // The record at byte p: its kind, and the two spare bytes.
@@ -83,7 +81,7 @@ fn header_fine(b: &[u8]) -> bool
     table_fine(b, a as usize, r)
 }
 
-// Length and header first, then the records in order: 0, or the number of the refusal.
+// The test of a book. Length and header first, then the records in order: 0, or the number of the refusal.
 pub fn book_refusal(b: &[u8]) -> u8
     ensures { λ r. ⌜ r ≡ bookRefusal (now (b .entry)) ⌝ }
 {
@@ -93,22 +91,6 @@ pub fn book_refusal(b: &[u8]) -> u8
     let a = get(b, 0, 4) as usize;
     let r = get(b, 4, 4) as usize;
     if records_fine(b, 8 + 8 * a, r) { 0 } else { 21 }
-}
-
-// Tests a book: how many accounts and records it has, or 20 or 21.
-pub fn test(b: &[u8]) -> Tested
-    ensures { λ r. ⌜ r ≡ testedAs (bookRefusal (now (b .entry))) (now (b .entry)) ⌝ }
-{
-    let n = book_refusal(b);
-    if n != 0 {
-        return Tested::Refused(n);
-    }
-    let a = get(b, 0, 4) as usize;
-    let r = get(b, 4, 4) as usize;
-    Tested::Fine {
-        accounts: a,
-        records: r,
-    }
 }
 
 // How many accounts the table has, 0 where it is not whole.

@@ -19,8 +19,6 @@ use Rattle.rules.specs.Accepted.{Lawful, offered, answersAfter, answersBy}
 use Rattle.rules.proofs.Lawful.{offered-lawful}
 use Rattle.little.proofs.Stores.{sets-front}
 use Rattle.layout.specs.declared.Span.{Span}
-use Rattle.layout.specs.declared.Outcome.the-variants.{Done}
-use Rattle.layout.specs.Answers.{outcomeOf}
 use Rattle.layout.specs.Lent.{after, orElse}
 use Rattle.layout.specs.Book.{records, bookRefusal, flat, decode}
 use Rattle.layout.specs.Finding.{recordOf, accountOf, IsAccount}
@@ -155,11 +153,11 @@ module _ (b : List ℕ) (i : ℕ) (ns : List ℕ) (os : List ℤ) (z : historyRe
         leb-true n (length os) (and-right (leb n (length ns)) (leb n (length os)) t),
       )
 
-  pub history-told : (ns2 : List ℕ) (os2 : List ℤ) → ns2 ≡ sets ns 0 (numbersOf (accountOf b i)) → os2 ≡ sets os 0 (owedFrom [] (accountOf b i)) → Told b i ns ns2 os os2 Done
+  pub history-told : (ns2 : List ℕ) (os2 : List ℤ) → ns2 ≡ sets ns 0 (numbersOf (accountOf b i)) → os2 ≡ sets os 0 (owedFrom [] (accountOf b i)) → Told b i ns ns2 os os2 0
   history-told ns2 os2 p q =
       let es = accountOf b i in
       record {
-        answer = sym (ap outcomeOf z);
+        answer = sym z;
         numbers = p ∙ (sets-front (numbersOf es) ns (omega (arith, length-numbers es, history-room .1)) ∙ sym (ap (λ n. after n (numbersOf es) ns) z));
         owing = q ∙ (sets-front (owedFrom [] es) os (omega (arith, length-owed [] es, history-room .2)) ∙ sym (ap (λ n. after n (owedFrom [] es) os) z));
       }

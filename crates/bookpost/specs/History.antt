@@ -11,8 +11,6 @@ use Rattle.rules.specs.History.{History}
 use Rattle.rules.specs.Money.{owed}
 use Rattle.rules.specs.Answer.{numberOf}
 use Rattle.rules.specs.Accepted.{offered, answersBy}
-use Rattle.layout.specs.declared.Outcome.{Outcome}
-use Rattle.layout.specs.Answers.{outcomeOf}
 use Rattle.layout.specs.Book.{bookRefusal}
 use Rattle.layout.specs.Lent.{after, orElse}
 use Rattle.layout.specs.Finding.{accountOf}
@@ -30,8 +28,8 @@ owedFrom h (e ∷ es) = owed (offered h e) ∷ owedFrom (offered h e) es
 abbrev pub historyRefusal : List ℕ → ℕ → ℕ → ℕ → ℕ
 historyRefusal b i n m = orElse (bookRefusal b) (cond (leb (length (accountOf b i)) n && leb (length (accountOf b i)) m) 0 22)
 
--- what telling a history does: its answer, and every element of both slices
-pub record Told (b : List ℕ) (i : ℕ) (ns ns2 : List ℕ) (os os2 : List ℤ) (r : Outcome) : Type 0 where
-  pub answer : r ≡ outcomeOf (historyRefusal b i (length ns) (length os))
+-- what telling a history does: the number of its answer, and every element of both slices
+pub record Told (b : List ℕ) (i : ℕ) (ns ns2 : List ℕ) (os os2 : List ℤ) (n : ℕ) : Type 0 where
+  pub answer : n ≡ historyRefusal b i (length ns) (length os)
   pub numbers : ns2 ≡ after (historyRefusal b i (length ns) (length os)) (numbersOf (accountOf b i)) ns
   pub owing : os2 ≡ after (historyRefusal b i (length ns) (length os)) (owedFrom [] (accountOf b i)) os

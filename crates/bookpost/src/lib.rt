@@ -3,6 +3,7 @@ use account::Account;
 use account::judge;
 use layout::Outcome;
 use layout::event_at;
+use lent::post_through;
 use little::get;
 use rules::Answer;
 ghost use mathlib.Core.Path.{_≡_};
@@ -12,6 +13,7 @@ ghost use Prim.Native.Nat.{_≤_};
 ghost use lib.ListN.{length};
 ghost use lib.Seq.{sets};
 ghost use Rattle.layout.specs.Book.{bookRefusal};
+ghost use Rattle.layout.specs.Answers.{numberOf, outcomeOf};
 ghost use Rattle.layout.specs.Finding.{accountOf};
 ghost use Rattle.claim.specs.Claim.{freshWords, accepts, Ran};
 ghost use Rattle.bookpost.specs.History.{numbersOf, owedFrom, historyRefusal, Told};
@@ -58,7 +60,7 @@ fn note_account(b: &[u8], i: usize, numbers: &mut [u8], owed: &mut [i64])
     let mut at: usize = 0;
     let mut account = Account::fresh();
     while 0 < left {
-        let p = account.post(book::record(b, k));
+        let p = post_through(account, book::record(b, k));
         let answer = p.answer;
         let next = p.account;
         let memory = next.memory;
@@ -86,7 +88,8 @@ fn history_refusal(b: &[u8], i: usize, n: usize, m: usize) -> u8
 // The history of account i: the number of the answer to each record, 0 for accepted, and what is owed after it. An account
 // past the last has no records. A slice longer than the history keeps its tail; a refusal changes nothing.
 pub fn history(b: &[u8], i: usize, numbers: &mut [u8], owed: &mut [i64]) -> Outcome
-    ensures { λ r. ⌜ Told (now (b .entry)) i (now (numbers .entry)) (now (numbers .exit)) (now (owed .entry)) (now (owed .exit)) r ⌝ }
+    ensures { λ r. ⌜ Told (now (b .entry)) i (now (numbers .entry)) (now (numbers .exit)) (now (owed .entry)) (now (owed .exit)) (numberOf r) ⌝ }
+    ensures { λ r. ⌜ r ≡ outcomeOf (numberOf r) ⌝ }
 {
     let n = history_refusal(b, i, numbers.len(), owed.len());
     if n != 0 {

@@ -11,9 +11,10 @@ ghost use lib.Seq.{sets};
 ghost use Rattle.layout.specs.Book.{base, eventsAt, countsAt, decode};
 ghost use Rattle.layout.specs.Lent.{kindsOf, optionsOf, daysOf, amountsOf, readRefusal, Left, Gave};
 ghost use Rattle.layout.specs.Facts.{Fits};
+ghost use Rattle.layout.specs.Answers.{numberOf, outcomeOf};
 
 // 0, or the number of the refusal, for memory of these lengths.
-pub fn read_refusal(b: &[u8], lc: usize, lk: usize, lo: usize, ld: usize, lm: usize) -> u8
+fn read_refusal(b: &[u8], lc: usize, lk: usize, lo: usize, ld: usize, lm: usize) -> u8
     ensures { λ r. ⌜ r ≡ readRefusal (now (b .entry)) lc lk lo ld lm ⌝ }
 {
     let n = book_refusal(b);
@@ -103,7 +104,8 @@ pub fn read(
     days: &mut [u32],
     amounts: &mut [u64],
 ) -> Outcome
-    ensures { λ r. ⌜ Gave (now (b .entry)) (now (counts .entry)) (now (kinds .entry)) (now (options .entry)) (now (days .entry)) (now (amounts .entry)) (now (counts .exit)) (now (kinds .exit)) (now (options .exit)) (now (days .exit)) (now (amounts .exit)) r ⌝ }
+    ensures { λ r. ⌜ Gave (now (b .entry)) (now (counts .entry)) (now (kinds .entry)) (now (options .entry)) (now (days .entry)) (now (amounts .entry)) (now (counts .exit)) (now (kinds .exit)) (now (options .exit)) (now (days .exit)) (now (amounts .exit)) (numberOf r) ⌝ }
+    ensures { λ r. ⌜ r ≡ outcomeOf (numberOf r) ⌝ }
 {
     let n = read_refusal(
         b,

@@ -15,6 +15,7 @@ ghost use Rattle.little.specs.Little.{le};
 ghost use Rattle.layout.specs.Book.{base, recordBytes, body, table, bookOf};
 ghost use Rattle.layout.specs.Lent.{lent, total, sizesFine, kindsFine, writeRefusal, Wrote};
 ghost use Rattle.layout.specs.Facts.{Room};
+ghost use Rattle.layout.specs.Answers.{numberOf, outcomeOf};
 
 fn wide32(x: u32) -> u64
     ensures { λ r. ⌜ (r ≡ x) × (r < 4294967296) ⌝ }
@@ -70,7 +71,7 @@ fn sizes_fine(counts: &[u32], kinds: &[u8], options: &[u8], days: &[u32], amount
 }
 
 // 0, or the number of the refusal, for output of room bytes.
-pub fn write_refusal(
+fn write_refusal(
     counts: &[u32],
     kinds: &[u8],
     options: &[u8],
@@ -193,7 +194,8 @@ pub fn write(
     amounts: &[u64],
     out: &mut [u8],
 ) -> Outcome
-    ensures { λ r. ⌜ Wrote (now (counts .entry)) (now (kinds .entry)) (now (options .entry)) (now (days .entry)) (now (amounts .entry)) (now (out .entry)) (now (out .exit)) r ⌝ }
+    ensures { λ r. ⌜ Wrote (now (counts .entry)) (now (kinds .entry)) (now (options .entry)) (now (days .entry)) (now (amounts .entry)) (now (out .entry)) (now (out .exit)) (numberOf r) ⌝ }
+    ensures { λ r. ⌜ r ≡ outcomeOf (numberOf r) ⌝ }
 {
     let n = write_refusal(counts, kinds, options, days, amounts, out.len());
     if n != 0 {

@@ -12,7 +12,7 @@ use Rattle.rules.specs.declared.Answer.{Answer}
 use Rattle.rules.specs.declared.Answer.the-variants.{Accepted, Refused}
 use Rattle.rules.specs.History.{History}
 use Rattle.rules.specs.Accepted.{refusal, offered, acceptedAfter, accepted, Lawful, answersAfter, cutOn}
-use Rattle.rules.proofs.Lawful.{accepted-lawful, money}
+use Rattle.rules.proofs.Lawful.{accepted-lawful, numbers-are, receipts-are, money}
 use Rattle.rules.proofs.Cut.{cut-exact}
 use Rattle.account.specs.State.{stateOn, wordsOf, accountOf, passes}
 use Rattle.account.specs.Post.{refusalAt, answerAt, stateAfter, answerTo, wordsAfter, Leaves}
@@ -44,6 +44,8 @@ claim-of es h w n =
     let k = laws h w in
     record {
       answered = refl;
+      numbered = numbers-are [] es;
+      receipted = receipts-are [] es;
       refused = n;
       owing = told.owed-is h k;
       holding = told.held-is h k;

@@ -12,6 +12,7 @@ use Rattle.rules.specs.declared.Event.{Event}
 use Rattle.rules.specs.declared.Answer.{Answer}
 use Rattle.rules.specs.declared.Answer.the-variants.{Accepted, Refused}
 use Rattle.rules.specs.Kinds.{bill, payment, depositPaid, payout}
+use Rattle.rules.specs.Answer.{numberOf, receiptOf}
 use Rattle.rules.specs.History.{History, finalDay, lastPosted, total}
 use Rattle.rules.specs.Deposit.{held, required}
 use Rattle.rules.specs.Money.{credits, owed, openItems, arrears}
@@ -20,7 +21,7 @@ use Rattle.rules.specs.Notice.{noticeLive}
 use Rattle.rules.specs.Medical.{certified}
 use Rattle.rules.specs.Arrangement.{inForce}
 use Rattle.rules.specs.Sums.{lateCharges, feesCharged, returnedPayments}
-use Rattle.rules.specs.Accepted.{dayRefusal, accepted, answersBy, cutOn, mayCut}
+use Rattle.rules.specs.Accepted.{dayRefusal, accepted, answersBy, refusalsAfter, receiptsAfter, cutOn, mayCut}
 use Rattle.ledger.specs.Ledger.{seen}
 use Rattle.account.specs.State.{accountSize, wordsOf, accountOf, passes}
 use Rattle.account.specs.Post.{answerTo, Leaves}
@@ -46,6 +47,9 @@ pub record ClaimOf (m : List ℕ) (said : List Answer) (es : List Event) (h : Hi
   -- each answer is the one that the events alone give: accepted exactly when no number refuses the event
   -- after those accepted before it, else that number; a payment's receipt is the count of accepted payments
   pub answered : said ≡ answersBy es
+  -- in document 01's numbers: that of the first row that refuses, 0 for accepted; the receipt, 0 for none
+  pub numbered : map numberOf said ≡ refusalsAfter [] es
+  pub receipted : map receiptOf said ≡ receiptsAfter [] es
   -- every event is refused or among the accepted
   pub refused : refusedIn said + length h ≡ length es
   -- owed is C − P of the accepted events

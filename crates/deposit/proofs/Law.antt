@@ -12,7 +12,7 @@ use Rattle.rules.specs.History.{History, finalDay, lastPosted}
 use Rattle.rules.specs.Deposit.{moves, held, required, full, fullOn, earned}
 use Rattle.rules.specs.Range.{mostDeposit}
 use Rattle.rules.specs.Accepted.{Lawful}
-use Rattle.rules.proofs.Sums.{total-since, newest-since}
+use Rattle.rules.proofs.Sums.{total-grows, total-since, newest-since}
 use Rattle.rules.proofs.Bounds.{sorted, in-days, held-in}
 use Rattle.deposit.specs.declared.Deposit.{Deposit}
 use Rattle.deposit.specs.Conduct.{conductOf, conductOk}
@@ -23,7 +23,7 @@ use Rattle.deposit.proofs.Full.{paidOn, paid-in, full-is}
 -- whatever the history, the part holds the rules' values, and the day of the newest deposit paid
 pub deposit-is : (h : History) → depositOf h ≡ record { held = held h; required = required h; «full_on» = paidOn h; conduct = conductOf h }
 unfolding depositOf conductOf
-deposit-is [] = refl
+deposit-is [] = rw (total-grows depositPaid [])
 deposit-is (e ∷ h) =
     ap (λ d. depositAfter d e) (deposit-is h)
     ∙ rw (total-since depositPaid moves e h, newest-since depositAsked moves e h)

@@ -1,13 +1,11 @@
 -- An account that a program keeps: its receipts are far from wrapping, and demand 3 holds of every list posted to it.
-use Prim.Native.Nat.{ℕ, _+_, _≤_, min}
+use Prim.Native.Nat.{ℕ, _+_, _≤_}
 use mathlib.Core.Path.{_≡_, refl, sym, ap, _∙_}
-use mathlib.Core.Bool.{Bool, true, false, cond}
 use mathlib.Core.List.{List, [], _∷_, map}
 use native.Mathlib.Omega.{arith}
 use lib.Dec.{eqb}
 use lib.ListN.{length}
 use borrow.Author.Tests.{eq-eqb, ne-eqb}
-use Rattle.basics.specs.Machine.{largest}
 use Rattle.basics.proofs.Cases.{on, at-most}
 use Rattle.rules.specs.declared.Event.{Event}
 use Rattle.rules.specs.Kinds.{payment}
@@ -22,15 +20,11 @@ use Rattle.account.specs.State.{State, accountSize, stateOn, passes}
 use Rattle.account.specs.Post.{refusalAt, answerAt, answerTo, wordsAfter}
 use Rattle.account.specs.Many.{accountAt, hasAccount, answerAtOf}
 use Rattle.account.proofs.Exits.{passed-fit}
-use Rattle.questions.specs.declared.Amount.{Amount}
-use Rattle.questions.specs.declared.Amount.the-variants as amount
-use Rattle.questions.specs.declared.Truth.{Truth}
-use Rattle.questions.specs.declared.Truth.the-variants as truth
-use Rattle.questions.specs.Questions.{Tells, Says}
 use Rattle.claim.specs.Run.{run, answers, LeftBy}
 use Rattle.claim.specs.Claim.{freshWords}
 use Rattle.claim.proofs.Demand.{demand-3}
-use Rattle.hollupaq.specs.Library.{answerWord, amountWord, truthWord, dayWord, yesWord, Keeps, Begun, KeptClaim}
+use Rattle.hollupaq.specs.Library.{answerWord, Keeps, Begun, KeptClaim}
+use Rattle.hollupaq.proofs.Told.{told-word, said-word}
 
 -- ---- a receipt counts payments, of which there are no more than cents in the limit
 receipt-at : (s : State) (e : Event) → s .receipts .count ≤ limit → receiptOf (answerAt s e) ≤ limit + 1
@@ -59,18 +53,6 @@ begun m k l e = let q = eq-eqb (length m) accountSize l in record { answer-is = 
 
 pub not-begun : (m : List ℕ) → (length m ≡ accountSize → ⊥) → Begun m 0 m
 not-begun m l = let q = ne-eqb (length m) accountSize l in record { answer-is = rw q; words-are = rw q }
-
--- ---- what is told for a day, as a word
-told-word : (a : Amount) (n c : ℕ) → c ≤ limit → Tells a n c → amountWord a ≡ dayWord n c
-told-word (amount.Cents x) n c l t =
-    let z : x ≡ c = t .cents ∙ rw (sym (t .told)) in
-    rw (sym (t .told), z) (omega arith)
-told-word (amount.Refused x) n c l t = rw (sym (t .told)) (t .number)
-
-said-word : (x : Truth) (n : ℕ) (b : Bool) → Says x n b → truthWord x ≡ yesWord n b
-said-word truth.Yes n b s = let z = rw (sym (s .told)) at (s .yes) in rw (sym (s .told), sym z)
-said-word truth.No n b s = let z = rw (sym (s .told)) at (s .yes) in rw (sym (s .told), sym z)
-said-word (truth.Refused x) n b s = rw (sym (s .told)) (s .number)
 
 -- ---- DEMAND 3
 as-run : (m : List ℕ) (es : List Event) (said : List ℕ) (z : List ℕ) → LeftBy Keeps m es said z → (z ≡ run m es) × (said ≡ map answerWord (answers m es))

@@ -1,10 +1,9 @@
 -- The answers of the static library: plain numbers, since an enum has no form in C; and demand 3 of an account that a program keeps.
-use Prim.Native.Nat.{ℕ, _+_, min}
+use Prim.Native.Nat.{ℕ, zero, suc, _+_, min}
 use mathlib.Core.Path.{_≡_}
 use mathlib.Core.Bool.{Bool, cond}
-use mathlib.Core.List.{List, [], map}
+use mathlib.Core.List.{List, map}
 use lib.Dec.{eqb}
-use lib.IntN.{ℤ}
 use lib.ListN.{length}
 use Rattle.basics.specs.Machine.{largest}
 use Rattle.rules.specs.declared.Event.{Event}
@@ -25,28 +24,21 @@ use Rattle.questions.specs.declared.Truth.the-variants as truth
 use Rattle.questions.specs.Questions.{arrearsOn, inForceOn, noticeLiveOn, certifiedOn}
 use Rattle.claim.specs.Run.{LeftBy}
 use Rattle.claim.specs.Claim.{freshWords, ClaimOf}
-use Rattle.layout.specs.Lent.{after}
-use Rattle.layout.specs.Finding.{accountOf}
-use Rattle.bookpost.specs.History.{numbersOf, owedFrom, historyRefusal}
-use Rattle.report.specs.declared.Printed.{Printed}
-use Rattle.report.specs.declared.Printed.the-variants as printed
-use Rattle.report.specs.Report.{printedAs, printedIn}
+use Rattle.report.specs.Report.{printLength, printedIn}
 
--- how many bytes were written; 0 where the output was too short, which no text is
-abbrev pub bytesOf : Printed → ℕ
-bytesOf (printed.Bytes n) = n
-bytesOf (printed.Refused n) = 0
+-- under 256 the number that refuses; where none does, 256 and the value asked for
+abbrev pub told : ℕ → ℕ → ℕ
+told zero v = 256 + v
+told (suc n) v = suc n
 
--- what writing a text does: its answer, and every byte of the output
+-- the same of yes, 1, or no, 0
+abbrev pub toldYes : ℕ → Bool → ℕ
+toldYes n b = told n (cond b 1 0)
+
+-- what writing a text does: how many bytes it took, 0 where the output was too short, which no text is; and every byte of the output
 pub record Written (text old new : List ℕ) (r : ℕ) : Type 0 where
-  pub answer : r ≡ bytesOf (printedAs text old)
+  pub answer : r ≡ printLength text old
   pub bytes : new ≡ printedIn text old
-
--- what telling a history does: its answer, and every element of both slices
-pub record Noted (b : List ℕ) (i : ℕ) (ns ns2 : List ℕ) (os os2 : List ℤ) (r : ℕ) : Type 0 where
-  pub answer : r ≡ historyRefusal b i (length ns) (length os)
-  pub numbers : ns2 ≡ after (historyRefusal b i (length ns) (length os)) (numbersOf (accountOf b i)) ns
-  pub owing : os2 ≡ after (historyRefusal b i (length ns) (length os)) (owedFrom [] (accountOf b i)) os
 
 -- ---- an account that the caller keeps
 -- under 256 the number that refuses, 0 where the memory is no account; else 256 and the receipt of a payment, or 256 alone
@@ -79,22 +71,15 @@ truthWord truth.Yes = 257
 truthWord truth.No = 256
 truthWord (truth.Refused n) = n
 
--- refused with n, or the value v told
-abbrev pub dayWord : ℕ → ℕ → ℕ
-dayWord n v = cond (eqb n 0) (256 + v) n
-
-abbrev pub yesWord : ℕ → Bool → ℕ
-yesWord n b = dayWord n (cond b 1 0)
-
 -- DEMAND 3 of z, the memory after the list es: what was answered are the answers of the events alone, and the claim holds
 pub record KeptClaimOf (z : List ℕ) (said : List ℕ) (es : List Event) : Type 0 where
   pub answered : said ≡ map answerWord (answersBy es)
   pub claim : ClaimOf z (answersBy es) es (accepted es)
   -- and for any day what the accepted events say of it, refused with 1 or 2 as an event is
-  pub dues : (t : ℕ) → amountWord (arrearsOn z t) ≡ dayWord (dayRefusal (accepted es) t) (arrears (accepted es) t)
-  pub arranged : (t : ℕ) → truthWord (inForceOn z t) ≡ yesWord (dayRefusal (accepted es) t) (inForce (accepted es) t)
-  pub noticed : (t : ℕ) → truthWord (noticeLiveOn z t) ≡ yesWord (dayRefusal (accepted es) t) (noticeLive (accepted es) t)
-  pub certificated : (t : ℕ) → truthWord (certifiedOn z t) ≡ yesWord (dayRefusal (accepted es) t) (certified (accepted es) t)
+  pub dues : (t : ℕ) → amountWord (arrearsOn z t) ≡ told (dayRefusal (accepted es) t) (arrears (accepted es) t)
+  pub arranged : (t : ℕ) → truthWord (inForceOn z t) ≡ toldYes (dayRefusal (accepted es) t) (inForce (accepted es) t)
+  pub noticed : (t : ℕ) → truthWord (noticeLiveOn z t) ≡ toldYes (dayRefusal (accepted es) t) (noticeLive (accepted es) t)
+  pub certificated : (t : ℕ) → truthWord (certifiedOn z t) ≡ toldYes (dayRefusal (accepted es) t) (certified (accepted es) t)
 
 -- each event is posted in the memory that the posting before left
 abbrev pub KeptClaim : List Event → List ℕ → List ℕ → Type 0

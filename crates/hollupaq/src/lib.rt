@@ -1,26 +1,16 @@
 // The core for programs in other languages: a static library with plain names. include/hollupaq.h says the same in C.
+mod books;
 mod days;
 mod kept;
 
 use bookpost::history;
-use report::Printed;
 use report::report;
-ghost use mathlib.Core.Path.{_≡_};
 ghost use Rattle.report.specs.Report.{textOf};
-ghost use Rattle.hollupaq.specs.Library.{Written, bytesOf, Noted};
+ghost use Rattle.bookpost.specs.History.{Told};
+ghost use Rattle.hollupaq.specs.Library.{Written};
 
 // What is answered from here on is accepted, or told: 256 and the value. Below it stands the number that refuses.
 const ACCEPTED: u64 = 256;
-
-// How many bytes were written, 0 where the output was too short.
-fn bytes_of(p: Printed) -> u64
-    ensures { λ r. ⌜ r ≡ bytesOf p ⌝ }
-{
-    match p {
-        Printed::Bytes(n) => n as u64,
-        Printed::Refused(_) => 0,
-    }
-}
 
 // Writes the standing of the book's accounts, as the program `standing` prints it, and says how many bytes that took.
 // Where the output is too short for the text it stays as it was, and the answer is 0. No text is empty.
@@ -29,7 +19,7 @@ pub extern "C" fn hollupaq_report(book: &[u8], out: &mut [u8]) -> u64
     ensures { λ r. ⌜ Written (textOf (now (book .entry))) (now (out .entry)) (now (out .exit)) r ⌝ }
 {
     let p = report(book, out);
-    bytes_of(p)
+    p.bytes() as u64
 }
 
 // The history of one account, counted from 0: for each of its records the number of the answer, 0 for accepted, and what is
@@ -42,7 +32,7 @@ pub extern "C" fn hollupaq_history(
     numbers: &mut [u8],
     owed: &mut [i64],
 ) -> u8
-    ensures { λ r. ⌜ Noted (now (book .entry)) account (now (numbers .entry)) (now (numbers .exit)) (now (owed .entry)) (now (owed .exit)) r ⌝ }
+    ensures { λ r. ⌜ Told (now (book .entry)) account (now (numbers .entry)) (now (numbers .exit)) (now (owed .entry)) (now (owed .exit)) r ⌝ }
 {
     let o = history(book, account, numbers, owed);
     o.number()

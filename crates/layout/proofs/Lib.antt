@@ -4,3 +4,5 @@ pub mod Trips
 pub mod Stored
 pub mod Found
 pub mod Samples
+pub mod Back
+pub mod Forth

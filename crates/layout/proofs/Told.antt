@@ -8,9 +8,8 @@ use borrow.Author.Tests.{leb-true, eqb-true}
 use lib.Dec.{leb}
 use lib.ListN.{length}
 use Rattle.layout.specs.declared.Outcome.the-variants.{Stopped}
-use Rattle.layout.specs.declared.Tested.the-variants.{Refused}
 use Rattle.layout.specs.Book.{accounts, records, base, headerFine, headerTests, bookRefusal, recordsFine}
-use Rattle.layout.specs.Answers.{testedAs, refusalOf, outcomeOf, numberOf}
+use Rattle.layout.specs.Answers.{outcomeOf}
 use Rattle.layout.specs.Lent.{after, orElse, sizesTests, sizesFine, kindsFine, writeRefusal, roomTests, enough, readRefusal}
 use Rattle.layout.specs.Facts.{Header, Fits, Sizes, Room}
 use Rattle.layout.proofs.Tests.{each, passed}
@@ -59,10 +58,6 @@ pub unchanged : {A : Type 0} (n : ℕ) (new old : List A) → (n ≡ 0 → ⊥) 
 unchanged zero new old h = absurd (h refl)
 unchanged (suc n) new old h = refl
 
-pub refused : (n : ℕ) (b : List ℕ) → (n ≡ 0 → ⊥) → Refused n ≡ testedAs n b
-refused zero b h = absurd (h refl)
-refused (suc n) b h = refl
-
 pub or-stop : (n x : ℕ) → (n ≡ 0 → ⊥) → n ≡ orElse n x
 or-stop zero x h = absurd (h refl)
 or-stop (suc n) x h = refl
@@ -87,12 +82,3 @@ read-facts b lc lk lo ld lm e =
       days = leb-true _ _ (f .1 .1 .1 .0);
       amounts = leb-true _ _ (f .1 .1 .1 .1 .0);
     }
-
--- the paper's number of an answer
-pub number-tested : (n : ℕ) (b : List ℕ) → refusalOf (testedAs n b) ≡ n
-number-tested zero b = refl
-number-tested (suc n) b = refl
-
-pub number-outcome : (n : ℕ) → numberOf (outcomeOf n) ≡ n
-number-outcome zero = refl
-number-outcome (suc n) = refl

@@ -6,8 +6,6 @@ use Prim.Native.Nat.{ℕ, zero, suc, _+_}
 use lib.Dec.{leb, eqb}
 use lib.ListN.{length, drop, getD}
 use Rattle.rules.specs.declared.Event.{Event}
-use Rattle.layout.specs.declared.Outcome.{Outcome}
-use Rattle.layout.specs.Answers.{outcomeOf}
 use Rattle.layout.specs.Book.{AccountList, all, size, mostAccounts, longest, kindFine, accounts, records, bookRefusal, split, flat, encode, decode}
 
 -- lent memory after a call with this number: what is new and then the old tail, or all as it was
@@ -62,9 +60,9 @@ abbrev pub writeRefusal : List ℕ → List ℕ → List ℕ → List ℕ → Li
 writeRefusal cs ks os ds ms room =
     cond (sizesFine cs ks os ds ms) (cond (kindsFine (length ks) 0 ks) (cond (leb (size (length cs) (length ks)) room) 0 22) 21) 20
 
--- what writing does: its answer, and every byte of the output afterwards
-pub record Wrote (cs ks os ds ms old new : List ℕ) (r : Outcome) : Type 0 where
-  pub answer : r ≡ outcomeOf (writeRefusal cs ks os ds ms (length old))
+-- what writing does: the number of its answer, and every byte of the output afterwards
+pub record Wrote (cs ks os ds ms old new : List ℕ) (n : ℕ) : Type 0 where
+  pub answer : n ≡ writeRefusal cs ks os ds ms (length old)
   pub bytes : new ≡ after (writeRefusal cs ks os ds ms (length old)) (encode (lentList cs ks os ds ms)) old
 
 -- ---- reading
@@ -100,7 +98,7 @@ pub record Left (n : ℕ) (list : AccountList) (cs ks os ds ms cs2 ks2 os2 ds2 m
   pub days : ds2 ≡ after n (daysOf (flat list)) ds
   pub amounts : ms2 ≡ after n (amountsOf (flat list)) ms
 
--- what reading does: its answer, and every element of the memory lent afterwards
-pub record Gave (b cs ks os ds ms cs2 ks2 os2 ds2 ms2 : List ℕ) (r : Outcome) : Type 0 where
-  pub answer : r ≡ outcomeOf (readRefusal b (length cs) (length ks) (length os) (length ds) (length ms))
+-- what reading does: the number of its answer, and every element of the memory lent afterwards
+pub record Gave (b cs ks os ds ms cs2 ks2 os2 ds2 ms2 : List ℕ) (n : ℕ) : Type 0 where
+  pub answer : n ≡ readRefusal b (length cs) (length ks) (length os) (length ds) (length ms)
   pub memory : Left (readRefusal b (length cs) (length ks) (length os) (length ds) (length ms)) (decode b) cs ks os ds ms cs2 ks2 os2 ds2 ms2

@@ -3,3 +3,4 @@ pub mod Answers
 pub mod Lent
 pub mod Finding
 pub mod Facts
+pub mod Trips

@@ -9,19 +9,13 @@ ghost use mathlib.Core.Path.{_≡_};
 ghost use Prim.Native.Nat.{_+_, _≤_};
 ghost use lib.ListN.{length};
 ghost use Rattle.layout.specs.Book.{kindFine, eventAt};
-ghost use Rattle.layout.specs.Answers.{refusalOf, numberOf};
+ghost use Rattle.layout.specs.Answers.{numberOf};
 
 // A book has at most so many accounts ..
 pub const MOST_ACCOUNTS: u64 = 1024;
 
 // .. and so many bytes.
 pub const LONGEST: u64 = 4_294_967_295;
-
-// What the test of a book finds: how many accounts and records it has, or the number of the refusal, 20 or 21.
-pub enum Tested {
-    Fine { accounts: usize, records: usize },
-    Refused(u8),
-}
 
 // How reading or writing a book ends: done, or stopped with the number of the refusal, 20, 21 or 22.
 pub enum Outcome {
@@ -33,21 +27,6 @@ pub enum Outcome {
 pub struct Span {
     pub first: usize,
     pub count: usize,
-}
-
-impl Tested {
-    // The number of the refusal, 0 for a book that passed.
-    pub fn number(self) -> u8
-        ensures { λ r. ⌜ r ≡ refusalOf self ⌝ }
-    {
-        match self {
-            Tested::Fine {
-                accounts: _,
-                records: _,
-            } => 0,
-            Tested::Refused(n) => n,
-        }
-    }
 }
 
 impl Outcome {

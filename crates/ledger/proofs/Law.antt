@@ -13,7 +13,7 @@ use Rattle.basics.proofs.Cases.{on, on-lt}
 use Rattle.basics.proofs.Lists.{All, all-append, all-more}
 use Rattle.rules.specs.declared.Event.{Event}
 use Rattle.rules.specs.declared.Item.{Item}
-use Rattle.rules.specs.Kinds.{payout}
+use Rattle.rules.specs.Kinds.{payment, payout}
 use Rattle.rules.specs.History.{History, amountIf, total}
 use Rattle.rules.specs.Deposit.{held}
 use Rattle.rules.specs.Money.{creditBy, credited, credits, charges, charge, charged, owed, items, unpaid, sumOf, keep, openItems, due, arrears}
@@ -22,7 +22,7 @@ use Rattle.rules.specs.Table.{limit, mostOpen}
 use Rattle.rules.specs.Receipts.{returnable}
 use Rattle.rules.specs.Accepted.{viewOf, Lawful}
 use Rattle.rules.proofs.Items.{keep-append, keep-keep, keep-same, keep-short, sum-keep, sum-mono}
-use Rattle.rules.proofs.Sums.{credited-step, no-charge}
+use Rattle.rules.proofs.Sums.{total-grows, credited-step, no-charge}
 use Rattle.rules.proofs.Passed.{passed}
 use Rattle.rules.proofs.Room.{payout-in}
 use Rattle.rules.proofs.Lawful.{payouts}
@@ -61,7 +61,7 @@ still h e w x p o =
     let b = ltb-true (credits (e ∷ h)) (x .upto) o in
     let n = payouts h (w .1) in
     let f = payout-in (viewOf h e) e (passed h e (w .0) .allowed .r7) in
-    lt-ltb (credits h) (x .upto) (omega arith)
+    lt-ltb (credits h) (x .upto) (omega (arith, credited-step e h, total-grows payout (e ∷ h)))
 
 -- ---- the stored form is the declared one
 abbrev kept : History → List Item
@@ -155,7 +155,7 @@ settles h e l w s =
     let m = paidFrom (creditedIn l (creditBy (held h) e)) (amountIf payout e) in
     let f : Formed m = record { size = s .formed .size; closed-le = s .formed .closed-le; chain = s .formed .chain } in
     let d : m .credited ≡ credited (e ∷ h) = omega (arith, s .credited-is, credited-step e h) in
-    let o : m .«paid_out» ≡ total payout (e ∷ h) = omega (arith, s .paid-is) in
+    let o : m .«paid_out» ≡ total payout (e ∷ h) = omega (arith, s .paid-is, total-grows payout (e ∷ h)) in
     let p : creditsBy m ≡ credits (e ∷ h) = omega arith in
     record {
       formed = settle-formed m f;
@@ -173,8 +173,8 @@ stored [] w =
     record {
       formed = record { size = refl; closed-le = zero-le; chain = refl };
       charged-is = refl;
-      credited-is = refl;
-      paid-is = refl;
+      credited-is = rw (total-grows payment []);
+      paid-is = rw (total-grows payout []);
       made-is = refl;
       placed = none-placed;
       open-are = refl;

@@ -1,3 +1,4 @@
 pub mod Lines
 pub mod Listing
+pub mod Texts
 pub mod Samples

@@ -18,7 +18,7 @@ use Rattle.layout.proofs.Found.{decode-length}
 use Rattle.text.specs.Decimal.{width, decimal}
 use Rattle.text.specs.Put.{Put}
 use Rattle.text.proofs.Numerals.{length-decimal, length-marked}
-use Rattle.report.specs.Report.{heading, lineOf, linesOf, listing, refusedText, textBy, Wrote}
+use Rattle.report.specs.Report.{heading, lineOf, linesOf, listing, refusedText, textBy, roomFor, Wrote}
 use Rattle.report.specs.declared.Printed.the-variants.{Bytes, Refused}
 use Rattle.report.proofs.Lines.{lines-short}
 
@@ -91,16 +91,19 @@ module _ (b : List ℕ) (sum i : ℕ) (c : Counting b sum i) where
 
 -- ---- the whole
 module _ (b : List ℕ) where
-  listing-length : length (listing b) ≡ 39 + length (linesOf 0 (decode b))
+  pub listing-length : length (listing b) ≡ 39 + length (linesOf 0 (decode b))
   unfolding listing
   listing-length = length-append heading (linesOf 0 (decode b))
 
-  -- room for 113 bytes a line is plenty
-  pub plenty : (room : ℕ) → 39 + 113 * accounts b ≤ room → ltb room (length (listing b)) ≡ false
-  plenty room h = le-ltb room (length (listing b)) (omega (arith, listing-length, lines-short 0 (decode b), decode-length b))
+  pub listing-short : length (listing b) ≤ roomFor (accounts b)
+  listing-short = omega (arith, listing-length, lines-short 0 (decode b), decode-length b)
 
-  pub counted : (room n : ℕ) → n ≡ length (linesOf 0 (decode b)) → ltb room (39 + n) ≡ ltb room (length (listing b))
-  counted room n e = ap (ltb room) (ap (λ k. 39 + k) e ∙ sym listing-length)
+  -- room for 113 bytes a line is plenty
+  pub plenty : (n : ℕ) → roomFor (accounts b) ≤ n → ltb n (length (listing b)) ≡ false
+  plenty n h = le-ltb n (length (listing b)) (omega (arith, listing-short))
+
+  pub counted : (m n : ℕ) → n ≡ length (linesOf 0 (decode b)) → ltb m (39 + n) ≡ ltb m (length (listing b))
+  counted m n e = ap (ltb m) (ap (λ k. 39 + k) e ∙ sym listing-length)
 
   pub header-room : (o : List ℕ) → length (listing b) ≤ length o → 0 + length heading ≤ length o
   header-room o h = omega (arith, listing-length)
@@ -111,14 +114,15 @@ module _ (text old : List ℕ) where
   written new r h p =
       let f = le-ltb (length old) (length text) h in
       record {
-        answer = rw f (ap Bytes (p .end ∙ omega arith));
+        number = rw f;
+        written = rw f (p .end ∙ omega arith);
         bytes = rw f (p .bytes ∙ sets-front text old h);
       }
 
   pub too-short : length old < length text → Wrote text old old (Refused 22)
   too-short h =
       let f = lt-ltb (length old) (length text) h in
-      record { answer = rw f; bytes = rw f }
+      record { number = rw f; written = rw f; bytes = rw f }
 
 pub refused-as : (n : ℕ) (b : List ℕ) → (n ≡ 0 → ⊥) → textBy n b ≡ refusedText n
 refused-as zero b h = absurd (h refl)

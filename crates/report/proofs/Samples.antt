@@ -5,7 +5,7 @@ use mathlib.Core.List.{[], _∷_}
 use Rattle.basics.specs.Ascii.{ascii}
 use Rattle.rules.specs.declared.Event.{Event}
 use Rattle.rules.specs.Table.{refusalBy}
-use Rattle.rules.specs.History.{within}
+use Rattle.rules.specs.History.{within, total}
 use Rattle.rules.specs.Range.{inRange}
 use Rattle.little.specs.Little.{num, un, le}
 use Rattle.layout.specs.Book.{AccountList, encode}
@@ -20,7 +20,7 @@ abbrev worked : AccountList
 worked = (event 1 0 100 10000 ∷ event 1 0 130 5000 ∷ event 2 0 131 4000 ∷ event 14 0 131 0 ∷ []) ∷ []
 
 pub worked-example : textOf (encode worked) ≡ ascii "account owed held open service refused\n0 11075 0 2 on 1\n"
-unfolding num un le decimal width lineOf listing refusalBy inRange within
+unfolding num un le decimal width lineOf listing refusalBy inRange within total
 worked-example = refl
 
 -- a credit with a deposit held; no events; closed, and nothing goes in after it
@@ -32,7 +32,7 @@ three =
     ∷ []
 
 pub three-accounts : textOf (encode three) ≡ ascii "account owed held open service refused\n0 -150 40 0 on 0\n1 0 0 0 on 0\n2 0 0 0 closed 2\n"
-unfolding num un le decimal width lineOf listing refusalBy inRange within
+unfolding num un le decimal width lineOf listing refusalBy inRange within total
 three-accounts = refl
 
 pub no-bytes : textOf [] ≡ ascii "book refused 20\n"

@@ -1,5 +1,5 @@
 -- The text that `standing` prints for a book, by the rules over events alone.
-use Prim.Native.Nat.{ℕ, zero, suc, _+_, _-_}
+use Prim.Native.Nat.{ℕ, zero, suc, _+_, _*_, _-_}
 use mathlib.Core.Path.{_≡_}
 use mathlib.Core.Bool.{Bool, cond}
 use mathlib.Core.List.{List, [], _∷_, _++_}
@@ -15,7 +15,7 @@ use Rattle.rules.specs.Money.{owed, openItems}
 use Rattle.rules.specs.Service.{service, wordOf}
 use Rattle.rules.specs.Accepted.{accepted}
 use Rattle.text.specs.Decimal.{decimal, signed}
-use Rattle.layout.specs.Book.{AccountList, bookRefusal, decode}
+use Rattle.layout.specs.Book.{AccountList, mostAccounts, bookRefusal, decode}
 use Rattle.report.specs.declared.Printed.{Printed}
 use Rattle.report.specs.declared.Printed.the-variants.{Bytes, Refused}
 
@@ -65,21 +65,46 @@ textOf b = textBy (bookRefusal b) b
 abbrev pub inputText : List ℕ → List ℕ
 inputText b = cond (ltb 65536 (length b)) (refusedText 20) (textOf b)
 
+-- bytes that hold the text of n accounts: the heading, and 113 for each line; and those that hold every text
+abbrev pub roomFor : ℕ → ℕ
+roomFor n = 39 + 113 * n
+
+abbrev pub room : ℕ
+room = roomFor mostAccounts
+
+-- ---- the answer, as document 01's number and value, by cases
+-- the number that refuses, 0 where the text is written
+abbrev pub printedNumber : Printed → ℕ
+printedNumber (Bytes n) = 0
+printedNumber (Refused n) = n
+
+-- how many bytes were written, 0 where it is refused
+abbrev pub printedBytes : Printed → ℕ
+printedBytes (Bytes n) = n
+printedBytes (Refused n) = 0
+
+-- ---- writing a text
 -- the output is too short for the text
 abbrev pub shortFor : List ℕ → List ℕ → Bool
 shortFor text old = ltb (length old) (length text)
 
--- the answer: how many bytes the text takes, or 22 where the output is too short
-abbrev pub printedAs : List ℕ → List ℕ → Printed
-printedAs text old = cond (shortFor text old) (Refused 22) (Bytes (length text))
+-- row 22
+abbrev pub printRefusal : List ℕ → List ℕ → ℕ
+printRefusal text old = cond (shortFor text old) 22 0
+
+-- how many bytes the text takes; none where the output is too short
+abbrev pub printLength : List ℕ → List ℕ → ℕ
+printLength text old = cond (shortFor text old) 0 (length text)
 
 -- the output afterwards: the text and then the old tail; where it is too short, all as it was
 abbrev pub printedIn : List ℕ → List ℕ → List ℕ
 printedIn text old = cond (shortFor text old) old (text ++ drop (length text) old)
 
--- what writing a text does: its answer, and every byte of the output
+-- what writing a text does: its answer, by number and bytes, and every byte of the output. No text is empty, so that
+-- number and bytes are those of one answer only (`one-answer` in proofs/Texts.antt)
 pub record Wrote (text old new : List ℕ) (r : Printed) : Type 0 where
-  pub answer : r ≡ printedAs text old
+  pub number : printedNumber r ≡ printRefusal text old
+  pub written : printedBytes r ≡ printLength text old
   pub bytes : new ≡ printedIn text old
 
 -- what a report of the bytes b does

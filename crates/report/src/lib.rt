@@ -24,7 +24,10 @@ ghost use Rattle.layout.specs.Finding.{accountOf};
 ghost use Rattle.text.specs.Put.{Put};
 ghost use Rattle.account.specs.State.{accountSize};
 ghost use Rattle.report.specs.Standing.{Stands, standingOn};
-ghost use Rattle.report.specs.Report.{lineOf, linesOf, listing, refusedText, inputText, Wrote, Reported};
+ghost use Rattle.report.specs.Report.{lineOf, linesOf, listing, refusedText, inputText, printedBytes, Wrote, Reported};
+
+// Room for every text: 39 bytes for the heading, and at most 113 for each of 1,024 accounts.
+pub const ROOM: usize = 39 + 113 * 1024;
 
 // Where an account stands after its records. What is owed is charged less credits, which may be negative.
 pub struct Standing {
@@ -42,6 +45,18 @@ pub struct Standing {
 pub enum Printed {
     Bytes(usize),
     Refused(u8),
+}
+
+impl Printed {
+    // How many bytes were written, 0 where it is refused.
+    pub fn bytes(self) -> usize
+        ensures { λ r. ⌜ r ≡ printedBytes self ⌝ }
+    {
+        match self {
+            Printed::Bytes(n) => n,
+            Printed::Refused(_) => 0,
+        }
+    }
 }
 
 // The first line.

@@ -24,7 +24,7 @@ use Rattle.rules.specs.Table.{limit, row7}
 use Rattle.rules.specs.Accepted.{viewOf, Lawful}
 use Rattle.rules.proofs.Days.{Sorted, within-true}
 use Rattle.rules.proofs.Items.{sum-mono}
-use Rattle.rules.proofs.Sums.{total-since, newest-since, credited-step, charged-items}
+use Rattle.rules.proofs.Sums.{total-grows, total-since, newest-since, credited-step, charged-items}
 use Rattle.rules.proofs.Ranged.{ranged}
 use Rattle.rules.proofs.Passed.{Passed, passed}
 use Rattle.rules.proofs.Room.{room}
@@ -44,7 +44,7 @@ record Limits (h : History) : Type 0 where
   credited-le : credited h ≤ limit
 
 limits : (h : History) → Lawful h → Limits h
-limits [] w = record { charged-le = zero-le; credited-le = zero-le }
+limits [] w = record { charged-le = zero-le; credited-le = omega (arith, total-grows payment []) }
 limits (e ∷ h) w =
     let k = limits h (w .1) in
     let r = room (viewOf h e) e (passed h e (w .0) .allowed) (k .charged-le) (k .credited-le) in
@@ -89,7 +89,7 @@ pub record Held (h : History) : Type 0 where
   pub required-le : required h ≤ mostDeposit
 
 pub held-in : (h : History) → Lawful h → Held h
-held-in [] w = record { held-le = zero-le; required-le = zero-le }
+held-in [] w = record { held-le = omega (arith, total-grows depositPaid []); required-le = zero-le }
 held-in (e ∷ h) w =
     let k = held-in h (w .1) in
     let p = passed h e (w .0) in
@@ -139,9 +139,10 @@ payments-count : (h : History) → Lawful h → length (payments h) ≤ total pa
 payments-count [] w = zero-le
 payments-count (e ∷ h) w =
     let ih = payments-count h (w .1) in
+    let more = total-grows payment (e ∷ h) in
     on-eq (e .kind) payment
-    (λ q z. let a = ranged payment e (passed h e (w .0) .in-range) z .amount-low in rw q (omega arith))
-    (λ q z. rw q (omega arith))
+    (λ q z. let a = ranged payment e (passed h e (w .0) .in-range) z .amount-low in rw (more, q) (omega arith))
+    (λ q z. rw (more, q) (omega arith))
 
 pub count-limit : (h : History) → Lawful h → length (payments h) ≤ limit
 count-limit h w = omega (arith, payments-count h w, credited-limit h w)
@@ -174,10 +175,10 @@ debt-limit (e ∷ h) w =
     (λ q. rw q (debt-limit h (w .1)))
 
 paid-since : (h : History) → paidSince h ≤ total payment h
-paid-since [] = zero-le
+paid-since [] = omega arith
 paid-since (e ∷ h) =
     let ih = paid-since h in
-    rw (total-since payment (is arrangement) e h) (on (is arrangement e) (λ q. rw q zero-le) (λ q. rw q (omega arith)))
+    rw (total-since payment (is arrangement) e h, total-grows payment (e ∷ h)) (on (is arrangement e) (λ q. rw q zero-le) (λ q. rw q (omega arith)))
 
 pub paid-limit : (h : History) → Lawful h → paidSince h ≤ limit
 paid-limit h w = omega (arith, paid-since h, credited-limit h w)

@@ -13,6 +13,9 @@ use Rattle.rules.specs.Deposit as deposit
 use Rattle.rules.specs.Service.{service, isOn, isOff}
 use Rattle.rules.specs.Money.{charged, credits, unpaid, openItems}
 use Rattle.rules.specs.Money as money
+use Rattle.rules.specs.Notice.{noticeLive}
+use Rattle.rules.specs.Medical as medical
+use Rattle.rules.specs.Arrangement.{inForce}
 use Rattle.rules.specs.Answer.{numberOf, receiptOf}
 use Rattle.rules.specs.Accepted.{accepted, answersBy}
 
@@ -120,6 +123,16 @@ open-part k es = unpaid (credits (accepted es)) (item k es)
 
 abbrev pub arrears : ℕ → List Event → ℕ
 arrears t es = money.arrears (accepted es) t
+
+-- on day t: a notice is live, a certificate is live, an arrangement is in force; 1 for yes
+abbrev pub live : ℕ → List Event → ℕ
+live t es = cond (noticeLive (accepted es) t) 1 0
+
+abbrev pub certified : ℕ → List Event → ℕ
+certified t es = cond (medical.certified (accepted es) t) 1 0
+
+abbrev pub stands : ℕ → List Event → ℕ
+stands t es = cond (inForce (accepted es) t) 1 0
 
 -- 0 on, 1 off, 2 closed
 abbrev pub service-is : List Event → ℕ

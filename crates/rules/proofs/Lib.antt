@@ -10,4 +10,5 @@ pub mod Cut
 pub mod Events
 pub mod Paper
 pub mod Edges
+pub mod Orders
 pub mod Marked

@@ -1,6 +1,6 @@
 -- Laws of the sums: how each grows with one more event, and how they add up.
 use Prim.Native.Nat.{ℕ, _+_}
-use mathlib.Core.Path.{_≡_, refl, ap}
+use mathlib.Core.Path.{_≡_, refl}
 use mathlib.Core.Bool.{Bool, false, cond, _||_}
 use mathlib.Core.List.{[], _∷_}
 use native.Mathlib.Omega.{arith}
@@ -12,40 +12,48 @@ use Rattle.rules.specs.History.{History, is, count, since, amountIf, tot
 use Rattle.rules.specs.Receipts.{payments, returnable}
 use Rattle.rules.specs.Deposit.{moves, held, moved}
 use Rattle.rules.specs.Money.{credited, credits, creditBy, charges, chargeBy, charge, charged, items, sumOf}
-use Rattle.rules.specs.Sums.{sumBy, lateCharges, feesCharged, returnedPayments}
+use Rattle.rules.specs.Sums.{lateCharges, feesCharged, returnedPayments}
 use Rattle.rules.proofs.Items.{sum-append}
 
--- ---- one more event
--- a sum by kind since the newest event that passes p: held, and what was paid since an arrangement
+-- ---- sums by kind
+-- what a sum by kind comes to: nothing before the first event, and what it was with the amount of an event of the kind
+abbrev pub grown : ℕ → History → ℕ
+grown k [] = 0
+grown k (e ∷ h) = total k h + amountIf k e
+
+-- The one fact that sums by kind share (document 01's last sentence), stated over the kind. Bills, payments, deposits paid and
+-- payouts are each this sum, and no proof about one of them has anything else to go by.
+pub total-grows : (k : ℕ) (h : History) → total k h ≡ grown k h
+unfolding total
+total-grows k [] = refl
+total-grows k (e ∷ h) = refl
+
+-- by it, the sum since the newest event that passes p: held, and what was paid since an arrangement
 pub total-since : (k : ℕ) (p : Event → Bool) (e : Event) (h : History)
     → total k (since p (e ∷ h)) ≡ cond (p e) 0 (total k (since p h) + amountIf k e)
-total-since k p e h = on (p e) (λ q. rw q) (λ q. rw q)
+total-since k p e h = on (p e) (λ q. rw q (total-grows k [])) (λ q. rw q (total-grows k (e ∷ since p h)))
 
+-- ---- one more event
 pub newest-since : (k : ℕ) (p : Event → Bool) (e : Event) (h : History)
     → newest k (since p (e ∷ h)) ≡ cond (p e) 0 (cond (is k e) (e .amount) (newest k (since p h)))
 newest-since k p e h = on (p e) (λ q. rw q) (λ q. rw q)
 
 pub credited-step : (e : Event) (h : History) → credited (e ∷ h) ≡ credited h + creditBy (held h) e
-credited-step e h = omega arith
+credited-step e h = omega (arith, total-grows payment (e ∷ h))
 
 -- ---- how they add up
--- a sum by kind is a sum of the events one by one
-pub total-sum : (k : ℕ) (h : History) → total k h ≡ sumBy (λ before e. amountIf k e) h
-total-sum k [] = refl
-total-sum k (e ∷ h) = ap (λ n. n + amountIf k e) (total-sum k h)
-
 -- C: bills, late charges, fees and returned payments
 pub charged-parts : (h : History)
     → charged h ≡ total bill h + lateCharges h + feesCharged h + returnedPayments h
-charged-parts [] = refl
-charged-parts (e ∷ h) = omega (arith, charged-parts h)
+charged-parts [] = omega (arith, total-grows bill [])
+charged-parts (e ∷ h) = omega (arith, charged-parts h, total-grows bill (e ∷ h))
 
 -- the deposits paid are held or were moved
 pub deposits : (h : History) → moved h + held h ≡ total depositPaid h
-deposits [] = refl
+deposits [] = omega arith
 deposits (e ∷ h) =
     let ih = deposits h in
-    rw (total-since depositPaid moves e h)
+    rw (total-since depositPaid moves e h, total-grows depositPaid (e ∷ h))
     (on-eq (e .kind) depositPaid
     (λ q z. simp z (omega arith))
     (λ q z. on (moves e) (λ m. simp (q, m) (omega arith)) (λ m. simp (q, m) (omega arith))))

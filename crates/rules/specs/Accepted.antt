@@ -90,6 +90,15 @@ answersAfter h (e ∷ es) = answer h e ∷ answersAfter (offered h e) es
 abbrev pub answersBy : List Event → List Answer
 answersBy es = answersAfter [] es
 
+-- of each answer the number, 0 for accepted, and the receipt, 0 for none
+abbrev pub refusalsAfter : History → List Event → List ℕ
+refusalsAfter h [] = []
+refusalsAfter h (e ∷ es) = refusal h e ∷ refusalsAfter (offered h e) es
+
+abbrev pub receiptsAfter : History → List Event → List ℕ
+receiptsAfter h [] = []
+receiptsAfter h (e ∷ es) = cond (eqb (refusal h e) 0) (receiptAfter h e) 0 ∷ receiptsAfter (offered h e) es
+
 -- a well-formed disconnection on t
 abbrev pub cutOn : ℕ → Event
 cutOn t = record { kind = disconnection; option = 0; day = t; amount = 0 }

@@ -45,8 +45,8 @@ since p (e ∷ h) = cond (p e) [] (e ∷ since p h)
 abbrev pub amountIf : ℕ → Event → ℕ
 amountIf k e = cond (is k e) (e .amount) 0
 
--- the amounts of the events of kind k, added up: the one sum by kind
-abbrev pub total : ℕ → History → ℕ
+-- the amounts of the events of kind k, added up: the one sum by kind. It opens for computing alone; a proof goes by its one law, `total-grows`
+unfoldable pub total : ℕ → History → ℕ
 total k [] = 0
 total k (e ∷ h) = total k h + amountIf k e
 

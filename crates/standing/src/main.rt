@@ -2,29 +2,32 @@
 // that says by which number the book is refused.
 use libc::STDIN_FILENO;
 use libc::STDOUT_FILENO;
-use report::Printed;
+use report::ROOM;
 use report::report_input;
+ghost use mathlib.Core.Path.{_≡_};
+ghost use Rattle.report.specs.Report.{inputText};
+ghost use Rattle.standing.specs.Program.{Prints};
 
-// How many bytes of the text there are to write. There is room for the text of every book that is read.
-fn length_of(p: Printed) -> usize {
-    match p {
-        Printed::Bytes(n) => n,
-        Printed::Refused(_) => 0,
-    }
+// The text for what was read, in memory with room for every text, and how many bytes it takes.
+fn print(book: &[u8], out: &mut [u8; ROOM]) -> usize
+    ensures { λ r. ⌜ Prints (now (book .entry)) (now (out .entry)) (now (out .exit)) r ⌝ }
+{
+    let p = report_input(book, out);
+    p.bytes()
 }
 
-fn print(book: &[u8], out: &mut [u8]) -> usize {
-    length_of(report_input(book, out))
+// Hands a text to standard output: nothing but the whole text for what was read.
+fn write(book: &[u8], text: &[u8])
+    requires { ⌜ now text ≡ inputText (now book) ⌝ }
+{
+    io::write_all(STDOUT_FILENO, text);
 }
 
-// One byte more is read than a book may have, so that a longer file is seen. The text of the most accounts, 1,024, takes
-// 39 bytes and at most 113 for each.
+// One byte more is read than a book may have, so that a longer file is seen.
 fn main() {
     let mut book = [0u8; 65_537];
-    let mut out = [0u8; 115_751];
+    let mut out = [0u8; ROOM];
     let n = io::read_full(STDIN_FILENO, &mut book);
     let length = print(&book[..n], &mut out);
-    if length <= 115_751 {
-        io::write_all(STDOUT_FILENO, &out[..length]);
-    }
+    write(&book[..n], &out[..length]);
 }

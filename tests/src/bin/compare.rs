@@ -10,6 +10,7 @@ use tests::coverage::Coverage;
 use tests::damage;
 use tests::kept;
 use tests::library::{self, Lent};
+use tests::lists::Lists;
 use tests::peer;
 use tests::program::{self, Feed};
 use tests::random::Random;
@@ -30,10 +31,14 @@ fn main() -> ExitCode {
         }
     };
     let mut tally = Tally::default();
-    let library = by_library(&wanted);
+    let mut library = by_library(&wanted);
+    let particular = particular_books(&wanted, &mut library.lists);
     library.coverage.print();
     library.tell(&mut tally);
-    particular_books(&wanted, &mut tally);
+    particular.tell(
+        &mut tally,
+        "short books and books of many accounts by the library",
+    );
     by_program(&wanted, &mut tally);
     if tally.finish() {
         ExitCode::SUCCESS
@@ -76,6 +81,7 @@ struct ByLibrary {
     longer: Group,
     shorter: Group,
     kept: kept::Accounts,
+    lists: Lists,
 }
 
 fn by_library(wanted: &Wanted) -> ByLibrary {
@@ -104,6 +110,7 @@ fn by_library(wanted: &Wanted) -> ByLibrary {
             all.beginnings(&book);
         }
         all.kept.book(wanted.seed, index, &book);
+        all.lists.book(index as usize, &book.bytes);
     }
     all
 }
@@ -158,23 +165,22 @@ impl ByLibrary {
         self.shorter
             .tell(tally, "texts refused in shorter memory, all as it was");
         self.kept.tell(tally);
+        self.lists.tell(tally);
     }
 }
 
-fn particular_books(wanted: &Wanted, tally: &mut Tally) {
+fn particular_books(wanted: &Wanted, lists: &mut Lists) -> Group {
     let mut group = Group::default();
     let mut random = Random::new(wanted.seed);
     let mut list = damage::particular(&mut random);
     for accounts in [1, 41, 999] {
         list.push(books::of_length(65_536, accounts, &mut random));
     }
-    for book in list {
-        group.try_one(|| library::compare_report(&book, &peer::report(&book)));
+    for (turn, book) in list.iter().enumerate() {
+        group.try_one(|| library::compare_report(book, &peer::report(book)));
+        lists.book(turn, book);
     }
-    group.tell(
-        tally,
-        "short books and books of many accounts by the library",
-    );
+    group
 }
 
 /// Files for the program, fewer than for the library since each is a process.

@@ -6,6 +6,7 @@ use super::told::Told;
 use crate::generator::History;
 use crate::peer::kind::PAYMENT;
 use crate::peer::money::Money;
+use crate::peer::writer::encode;
 use crate::peer::{post_all, receipts, Posted};
 use crate::{show, shrink};
 use std::fmt::Debug;
@@ -84,7 +85,7 @@ fn when_asked<T>(
 
 /// The same numbers, and the same owed, as where each event takes the account by value and hands it back.
 pub fn by_value(events: &[Event], _: &Posted, kept: &Kept) -> Option<String> {
-    let book = tools::book::encode(&[events.to_vec()]);
+    let book = encode(&[events.to_vec()]);
     let by_value = core::history(&book, 0);
     let by_value = by_value.map(|replies| replies.iter().map(|r| (r.number, r.owed)).collect());
     let number = |&(answer, owed): &(Answer, i64)| match answer {

@@ -377,14 +377,14 @@ fn the_worked_example_is_printed() {
         payment(131, 4_000),
         cut(131),
     ];
-    let book = tools::book::encode(&[events]);
+    let book = writer::encode(&[events]);
     let text = "account owed held open service refused\n0 11075 0 2 on 1\n";
     assert_eq!(report(&book), text.as_bytes());
 }
 
 #[test]
 fn a_bad_book_prints_its_number() {
-    let book = tools::book::encode(&[vec![bill(0, 1)], vec![]]);
+    let book = writer::encode(&[vec![bill(0, 1)], vec![]]);
     assert_eq!(report(&book[..7]), b"book refused 20\n");
     assert_eq!(report(&book[..book.len() - 1]), b"book refused 20\n");
     let changed = |at: usize, byte| {
@@ -401,11 +401,11 @@ fn a_bad_book_prints_its_number() {
 
 #[test]
 fn a_longer_file_is_refused() {
-    let longest = tools::book::encode(&[vec![bill(0, 1); 4_095]]);
-    assert_eq!(longest.len(), 65_536);
+    let longest = writer::encode(&[vec![bill(0, 1); 4_095]]);
+    assert_eq!(longest.len(), book::LONGEST_FILE);
     assert_eq!(standing(&longest), report(&longest));
     assert!(standing(&longest).ends_with(b" 64 on 4031\n"));
-    let longer = tools::book::encode(&[vec![call(0); 4_096]]);
+    let longer = writer::encode(&[vec![call(0); 4_096]]);
     assert_eq!(standing(&longer), b"book refused 20\n");
     assert!(report(&longer).starts_with(b"account"));
 }

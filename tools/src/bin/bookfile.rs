@@ -1,6 +1,7 @@
 //! Turns the readable text of a book into the book, and back.
 use std::process::ExitCode;
-use tools::{book, command, core, files, text, words};
+use tools::core::books;
+use tools::{command, files, text, words};
 
 const USAGE: &str = "\
 bookfile pack [TEXT [BOOK]]     makes the book of a text
@@ -31,20 +32,10 @@ fn run(turn: Turn, names: &[&str]) -> Result<(), String> {
 fn pack(input: &[u8]) -> Result<Vec<u8>, String> {
     let input = String::from_utf8_lossy(input);
     let list = text::read(&input).map_err(|mistake| mistake.to_string())?;
-    let book = book::encode(&list);
-    accepted(&book)?;
-    Ok(book)
+    books::write(&list).map_err(words::list_refused)
 }
 
 fn unpack(input: &[u8]) -> Result<Vec<u8>, String> {
-    accepted(input)?;
-    text::write(&book::decode(input)).map(String::into_bytes)
-}
-
-/// Only the core says which bytes are a book.
-fn accepted(book: &[u8]) -> Result<(), String> {
-    match core::book_refusal(book) {
-        None => Ok(()),
-        Some(number) => Err(words::book_refused(number)),
-    }
+    let list = books::read(input).map_err(words::book_refused)?;
+    text::write(&list).map(String::into_bytes)
 }

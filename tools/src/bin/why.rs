@@ -1,7 +1,8 @@
 //! Shows the history of one account event by event, with the core's answers in words: why was this refused?
 use std::process::ExitCode;
+use tools::core::books;
 use tools::event::Event;
-use tools::{book, command, core, files, story, words};
+use tools::{command, core, files, story, words};
 
 const USAGE: &str = "\
 why [BOOK [ACCOUNT]]   shows the history of an account of a book, the first (0) where none is named
@@ -24,11 +25,11 @@ fn main() -> ExitCode {
 
 fn show(name: &str, account: usize) -> Result<(), String> {
     let book = files::read(name)?;
-    let replies = core::history(&book, account).map_err(words::book_refused)?;
-    let list = book::decode(&book);
+    let list = books::read(&book).map_err(words::book_refused)?;
     let Some(events) = list.get(account) else {
         return Err(no_account(account, &list));
     };
+    let replies = core::history(&book, account).map_err(words::book_refused)?;
     let report = core::report(&book);
     let text = story::tell(account, list.len(), events, &replies, &report);
     files::write("-", text.as_bytes())

@@ -1,5 +1,4 @@
-use mathlib.Core.Path.{sym, ap, _∙_}
-use Rattle.layout.specs.declared.Outcome.the-variants.{Stopped}
+use mathlib.Core.Path.{refl, sym, _∙_}
 use Rattle.layout.proofs.Told.{stopped, unchanged}
 use Rattle.bookpost.proofs.Noting.{history-room, history-told}
 use borrow.Author.Needs.{needs}
@@ -10,7 +9,7 @@ returns : tie.Need-returns
 returns c =
     let e = c .before .history-refusal .ensures in
     let z = rw e at (c .if1 .taken) in
-    record { answer = ap (λ n. Stopped n) e ∙ stopped _ z; numbers = unchanged _ _ _ z; owing = unchanged _ _ _ z }
+    (record { answer = e; numbers = unchanged _ _ _ z; owing = unchanged _ _ _ z }, stopped _ (c .if1 .taken))
 
 note-account-requires : tie.Need-note-account-requires
 note-account-requires c κs =
@@ -21,7 +20,7 @@ returns-2 : tie.Need-returns-2
 returns-2 c =
     let s = c .before .before .before .before .before .before .before .before .before .before .args in
     let e = sym (c .before .before .before .before .before .before .before .history-refusal .ensures) ∙ c .before .before .before .before .before .before .if1 .left in
-    history-told (s .b .now) (s .i) (s .numbers .now) (s .owed .now) e _ _ (c .before .before .before .note-account .ensures .0) (c .before .before .before .note-account .ensures .1)
+    (history-told (s .b .now) (s .i) (s .numbers .now) (s .owed .now) e _ _ (c .before .before .before .note-account .ensures .0) (c .before .before .before .note-account .ensures .1), refl)
 
 pub history-spec : {M : Type 1} → statement M
 history-spec =

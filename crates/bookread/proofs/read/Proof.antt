@@ -1,9 +1,7 @@
-use mathlib.Core.Path.{sym, ap, _∙_}
+use mathlib.Core.Path.{refl, sym, _∙_}
 use Rattle.layout.specs.Book.{decode}
-use Rattle.layout.specs.Answers.{outcomeOf}
 use Rattle.layout.proofs.Told.{read-facts, stopped}
 use Rattle.layout.proofs.Stored.{kept-all}
-use Rattle.layout.specs.declared.Outcome.the-variants.{Stopped}
 use borrow.Author.Needs.{needs}
 use Rattle.bookread.proofs.read.Statement.{statement}
 use Rattle.bookread.proofs.read.Tie as tie
@@ -12,11 +10,13 @@ returns : tie.Need-returns
 returns c =
     let s = c .before .before .before .before .before .before .before .before .args in
     let e = c .before .read-refusal .ensures in
-    let z = rw e at (c .if1 .taken) in
-    record {
-      answer = ap (λ n. Stopped n) e ∙ stopped _ z;
-      memory = kept-all _ (decode (s .b .now)) (s .counts .now) (s .kinds .now) (s .options .now) (s .days .now) (s .amounts .now) z;
-    }
+    let z = rw e at (c .if1 .taken) in (
+      record {
+        answer = e;
+        memory = kept-all _ (decode (s .b .now)) (s .counts .now) (s .kinds .now) (s .options .now) (s .days .now) (s .amounts .now) z;
+      },
+      stopped _ (c .if1 .taken),
+    )
 
 take-book-requires : tie.Need-take-book-requires
 take-book-requires c κs = read-facts _ _ _ _ _ _ (sym (c .before .before .before .before .before .before .read-refusal .ensures) ∙ c .before .before .before .before .before .if1 .left)
@@ -24,7 +24,7 @@ take-book-requires c κs = read-facts _ _ _ _ _ _ (sym (c .before .before .befor
 returns-2 : tie.Need-returns-2
 returns-2 c =
     let e = sym (c .before .before .before .before .before .before .before .before .before .before .before .before .before .before .before .before .before .read-refusal .ensures) ∙ c .before .before .before .before .before .before .before .before .before .before .before .before .before .before .before .before .if1 .left in
-    record { answer = sym (ap outcomeOf e); memory = rw e (c .before .before .before .before .before .before .before .before .before .before .take-book .ensures) }
+    (record { answer = sym e; memory = rw e (c .before .before .before .before .before .before .before .before .before .before .take-book .ensures) }, refl)
 
 pub read-spec : {M : Type 1} → statement M
 read-spec =

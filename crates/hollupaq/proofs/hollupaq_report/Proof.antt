@@ -1,5 +1,4 @@
-use mathlib.Core.Path.{ap, _∙_}
-use Rattle.hollupaq.specs.Library.{bytesOf}
+use mathlib.Core.Path.{_∙_}
 use borrow.Author.Needs.{needs}
 use Rattle.hollupaq.proofs.hollupaq_report.Statement.{statement}
 use Rattle.hollupaq.proofs.hollupaq_report.Tie as tie
@@ -7,7 +6,7 @@ use Rattle.hollupaq.proofs.hollupaq_report.Tie as tie
 returns : tie.Need-returns
 returns c =
     let p = c .before .before .before .report in
-    record { answer = c .bytes-of .ensures ∙ ap bytesOf (p .ensures .answer); bytes = p .ensures .bytes }
+    record { answer = c .bytes .ensures ∙ p .ensures .written; bytes = p .ensures .bytes }
 
 pub hollupaq-report-spec : {M : Type 1} → statement M
 hollupaq-report-spec =

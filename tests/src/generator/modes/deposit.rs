@@ -17,6 +17,9 @@ pub fn deposits(w: &mut Writer) {
                 w.go_to_reconnection();
             }
         }
+        if w.random.once_in(3) {
+            move_on_the_day(w, full);
+        }
         // A refused move changes nothing: every day next to a bound may be asked for.
         for day in w.edge_days() {
             if day >= full.saturating_add(364) {
@@ -29,6 +32,24 @@ pub fn deposits(w: &mut Writer) {
     }
     let steps = w.random.below(30);
     w.walk(steps, &[&DEPOSIT[..], &COLLECTION].concat());
+}
+
+/// Asks for the move on the very day of a notice or of a cut, with up to two notices before it in the year.
+fn move_on_the_day(w: &mut Writer, full: u32) {
+    let day = w.later(75).max(full.saturating_add(365));
+    w.post(bill(w.today(), 9_000));
+    let earlier = w.random.below(3) as usize;
+    for before in &[52, 31][..earlier] {
+        w.post(notice(day - before));
+    }
+    if w.random.once_in(2) {
+        w.post(notice(day));
+    } else {
+        w.post(notice(day - 5));
+        w.post(call(day - 1));
+        w.post(cut(day));
+    }
+    w.post(deposit_moved(day));
 }
 
 /// Asks for a deposit, if none is asked for, and pays it to the last cent.
