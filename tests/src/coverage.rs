@@ -185,7 +185,7 @@ mod tests {
     fn what_is_not_reached_is_missing() {
         let mut coverage = Coverage::default();
         assert_eq!(missing(&coverage), [16, 19, 2, PAIRS, EDGES.len()]);
-        let events = [cut(0), bill(0, 133), bill(0, 1)];
+        let events = [bill(0, 133), bill(0, 1), cut(0)];
         coverage.history(&events, &post_all(&events));
         // A bill is accepted, 10 refuses, and refuses a cut; the second bill is one at 133 owed.
         assert_eq!(missing(&coverage), [15, 18, 2, PAIRS - 1, EDGES.len() - 1]);

@@ -58,12 +58,17 @@ impl Accounts {
     }
 
     fn history(&mut self, history: &History, often: bool, good: bool) {
-        let (asked, told, days) = if often {
-            let groups = (&mut self.after_each, &mut self.days_after_each);
-            (Asked::AfterEach, groups.0, groups.1)
-        } else {
-            let groups = (&mut self.at_the_end, &mut self.days_at_the_end);
-            (Asked::AtTheEnd, groups.0, groups.1)
+        let (asked, told, days) = match often {
+            true => (
+                Asked::AfterEach,
+                &mut self.after_each,
+                &mut self.days_after_each,
+            ),
+            false => (
+                Asked::AtTheEnd,
+                &mut self.at_the_end,
+                &mut self.days_at_the_end,
+            ),
         };
         let kept = keep(&history.events, asked);
         let compare = |check: Check| against::compare(history, &kept, check);

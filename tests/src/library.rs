@@ -174,6 +174,10 @@ mod tests {
         for lent in [Lent::Exact, Lent::Longer(7), Lent::Shorter(1)] {
             assert!(compare_lent(&book(), &longer, lent).is_some(), "{lent:?}");
         }
+        // As long, but not the same.
+        let mut other = expected;
+        other[40] ^= 1;
+        assert!(compare_lent(&book(), &other, Lent::Exact).is_some());
     }
 
     #[test]

@@ -169,9 +169,10 @@ mod tests {
         assert_eq!(told[14], (73_049, [1; 4]));
         let mut reached = Reached::default();
         assert_eq!(reached.missing().len(), 20);
+        // Without events there is nothing on any day, and no change.
+        reached.note(&by_peer(&[], &Money::of(&[]), 0));
+        assert_eq!(reached.missing().len(), 12);
         reached.note(&told);
-        assert_eq!(reached.missing(), ["  arrears: Nothing"]);
-        reached.note(&by_peer(&accepted, &money, 1));
         assert_eq!(reached.missing(), [""; 0]);
     }
 }

@@ -120,18 +120,35 @@ mod tests {
 
     #[test]
     fn a_posting_that_goes_another_way_is_seen() {
-        let other_ways: [PostAt; 4] = [
-            // Another answer, another account, another account as well, and the last one for those behind it.
-            |words, index, event| lent::post_at(words, index, event) ^ 1,
-            |words, _, event| lent::post_at(words, 0, event),
-            |words, index, event| {
+        use lent::post_at as post;
+        assert_eq!(wrong(&list(), post), None);
+        // Where each is seen first, and the way that the posting goes.
+        let other_ways: [(&str, PostAt); 5] = [
+            ("account 0, event 0", |words, at, event| {
+                match post(words, at, event) {
+                    256 => 257,
+                    answer => answer,
+                }
+            }),
+            ("account 2, event 0", |words, at, event| {
+                post(words, at / 2, event)
+            }),
+            ("account 0, event 0", |words, at, event| {
                 words[WORDS] += 1;
-                lent::post_at(words, index, event)
-            },
-            |words, index, event| lent::post_at(words, index.min(ACCOUNTS - 1), event),
+                post(words, at, event)
+            }),
+            ("account 3 of 3", |words, at, event| match at {
+                ACCOUNTS => 256,
+                _ => post(words, at, event),
+            }),
+            ("account 4 of 3", |words, at, event| {
+                words[0] += u64::from(at == ACCOUNTS + 1);
+                post(words, at, event)
+            }),
         ];
-        for post_at in other_ways {
-            assert!(wrong(&list(), post_at).is_some());
+        for (place, post_at) in other_ways {
+            let seen = wrong(&list(), post_at).unwrap();
+            assert!(seen.starts_with(&format!("  {place}: ")), "{place}, {seen}");
         }
     }
 

@@ -61,3 +61,35 @@ impl Told {
         }
     }
 }
+
+#[cfg(test)]
+mod tests {
+    use super::*;
+    use crate::make::{bill, call, cut, deposit_asked, deposit_paid, notice};
+
+    #[test]
+    fn both_tell_each_part() {
+        let events = [
+            deposit_asked(0, 700),
+            deposit_paid(0, 300),
+            bill(0, 6_000),
+            notice(20),
+            call(24),
+            cut(25),
+        ];
+        let mut account = Account::fresh();
+        for event in events {
+            account.post(event);
+        }
+        let told = Told {
+            owed: 7_500,
+            held: 300,
+            required: 700,
+            service: Service::Off,
+            open: vec![(0, 6_000), (20, 1_500), (0, 0)],
+        };
+        assert_eq!(Told::by_account(&account), told);
+        let by_peer = Told::by_peer(&events, &Money::of(&events), events.len());
+        assert_eq!(by_peer, told);
+    }
+}
