@@ -1,4 +1,7 @@
 //! Accounts that the caller keeps, through the static library: a short story, its copies, and the memory they lie in.
+mod common;
+
+use common::after;
 use std::fs;
 use std::hint::black_box;
 use std::path::Path;
@@ -19,19 +22,6 @@ fn in_header(name: &str) -> Option<usize> {
 
 fn item(day: u64, unpaid: u64) -> OpenItem {
     OpenItem { day, unpaid }
-}
-
-/// An account after events that are all accepted.
-fn after(events: &[Event]) -> Account {
-    let mut account = Account::fresh();
-    for &event in events {
-        let answer = account.post(event);
-        assert!(
-            matches!(answer, Answer::Accepted(_)),
-            "{event:?} {answer:?}"
-        );
-    }
-    account
 }
 
 /// A bill, and what leads to a lawful disconnection on day 25.

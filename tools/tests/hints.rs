@@ -1,7 +1,10 @@
 //! The days and counts that hints tell, against the core: an event is posted after histories in which what the hint speaks of
 //! lies on each day in turn, and is refused by the hint's number exactly on the days that the hint says.
+mod common;
+
+use common::last_answer;
 use std::ops::RangeInclusive;
-use tools::core::{Account, Answer};
+use tools::core::Answer;
 use tools::event::Event;
 use tools::hints::{
     arrears_days, call_days, conduct_from, full_days, hint, notice_days, Before, Days,
@@ -64,16 +67,7 @@ fn before(events: &[Event]) -> Before {
 
 /// Whether the number refuses the last event, posted after the others, which have to be accepted.
 fn refused_by(number: u8, events: &[Event]) -> bool {
-    let (&last, before) = events.split_last().unwrap();
-    let mut account = Account::fresh();
-    for &event in before {
-        let answer = account.post(event);
-        assert!(
-            matches!(answer, Answer::Accepted(_)),
-            "{event:?} {answer:?}"
-        );
-    }
-    match account.post(last) {
+    match last_answer(events) {
         Answer::Accepted(_) => false,
         answer => {
             assert_eq!(answer, Answer::Refused(number), "{events:?}");

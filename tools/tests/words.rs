@@ -1,5 +1,8 @@
 //! Numbers that the tools tell in words are the core's: each is taken out of the text and tried at both of its sides.
-use tools::core::{Account, Answer};
+mod common;
+
+use common::last_answer;
+use tools::core::Answer;
 use tools::event::Event;
 use tools::kinds::{Named, KINDS};
 use tools::words::{date, meaning, LAST_DAY};
@@ -11,20 +14,6 @@ fn numbers(text: &str) -> Vec<u64> {
     let plain = text.replace([',', '.'], "");
     let words = plain.split(|c: char| !c.is_ascii_digit());
     words.filter_map(|digits| digits.parse().ok()).collect()
-}
-
-/// The answer to the last event, posted after others that are accepted.
-fn last_answer(events: &[Event]) -> Answer {
-    let (&last, before) = events.split_last().unwrap();
-    let mut account = Account::fresh();
-    for &event in before {
-        let answer = account.post(event);
-        assert!(
-            matches!(answer, Answer::Accepted(_)),
-            "{event:?} {answer:?}"
-        );
-    }
-    account.post(last)
 }
 
 /// Whether a kind takes an option and an amount.

@@ -3,21 +3,31 @@
 use crate::ACCEPTED;
 use little::get;
 ghost use mathlib.Core.Path.{_≡_};
+ghost use Prim.Native.Nat.{_≤_};
+ghost use Rattle.little.specs.Little.{num};
 ghost use Rattle.layout.specs.Book.{accounts, records, bookRefusal};
 ghost use Rattle.layout.specs.Lent.{Gave};
 ghost use Rattle.hollupaq.specs.Library.{told};
 ghost use Rattle.hollupaq.specs.Books.{Stored};
+
+// The number at byte p of the header, where the book is not refused.
+fn header_number(book: &[u8], p: usize) -> u64
+    requires { ⌜ p ≤ 4 ⌝ }
+    ensures { λ r. ⌜ r ≡ told (bookRefusal (now (book .entry))) (num 4 p (now (book .entry))) ⌝ }
+{
+    let n = book::book_refusal(book);
+    if n != 0 {
+        return n as u64;
+    }
+    ACCEPTED + get(book, p, 4)
+}
 
 // The test of a book: 20 or 21 where it is refused, else 256 and how many accounts it has.
 #[no_mangle]
 pub extern "C" fn hollupaq_book_accounts(book: &[u8]) -> u64
     ensures { λ r. ⌜ r ≡ told (bookRefusal (now (book .entry))) (accounts (now (book .entry))) ⌝ }
 {
-    let n = book::book_refusal(book);
-    if n != 0 {
-        return n as u64;
-    }
-    ACCEPTED + get(book, 0, 4)
+    header_number(book, 0)
 }
 
 // The same with how many records it has, of all accounts.
@@ -25,11 +35,7 @@ pub extern "C" fn hollupaq_book_accounts(book: &[u8]) -> u64
 pub extern "C" fn hollupaq_book_records(book: &[u8]) -> u64
     ensures { λ r. ⌜ r ≡ told (bookRefusal (now (book .entry))) (records (now (book .entry))) ⌝ }
 {
-    let n = book::book_refusal(book);
-    if n != 0 {
-        return n as u64;
-    }
-    ACCEPTED + get(book, 4, 4)
+    header_number(book, 4)
 }
 
 // Reads the account list of a book: 0, and longer memory keeps its tail; or 20, 21 or 22, and all of it stays as it was.

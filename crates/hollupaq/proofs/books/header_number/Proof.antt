@@ -3,8 +3,8 @@ use native.Mathlib.Omega.{arith}
 use Rattle.layout.proofs.Told.{book-facts}
 use Rattle.hollupaq.proofs.Told.{told-number, told-value}
 use borrow.Author.Needs.{needs}
-use Rattle.hollupaq.proofs.books.hollupaq_book_accounts.Statement.{statement}
-use Rattle.hollupaq.proofs.books.hollupaq_book_accounts.Tie as tie
+use Rattle.hollupaq.proofs.books.header_number.Statement.{statement}
+use Rattle.hollupaq.proofs.books.header_number.Tie as tie
 
 returns : tie.Need-returns
 returns c =
@@ -17,7 +17,7 @@ get-requires c κs = omega (arith, book-facts (c .before .before .before .args .
 returns-2 : tie.Need-returns-2
 returns-2 c = told-value _ _ _ (sym (c .before .before .book-refusal .ensures) ∙ c .before .if1 .left) (c .get .ensures .0)
 
-pub hollupaq-book-accounts-spec : {M : Type 1} → statement M
-hollupaq-book-accounts-spec =
+pub header-number-spec : {M : Type 1} → statement M
+header-number-spec =
     tie.close
     (tie.spec (λ c κs. search needs) (λ c. search needs) returns get-requires (λ c. search needs) returns-2)
