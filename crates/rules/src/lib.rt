@@ -6,7 +6,7 @@ pub mod limits;
 ghost use mathlib.Core.Path.{_≡_};
 ghost use Rattle.rules.specs.History.{within as Within};
 ghost use Rattle.rules.specs.Service.{isOn, isOff, isClosed};
-ghost use Rattle.rules.specs.Answer.{numberOf, receiptOf};
+ghost use Rattle.rules.specs.Answer.{numberOf};
 
 // One thing that happened to an account. specs/Kinds.antt names the sixteen kinds, specs/Range.antt the fields of each.
 pub struct Event {
@@ -109,16 +109,6 @@ impl Answer {
         match self {
             Answer::Accepted(_) => 0,
             Answer::Refused(n) => n,
-        }
-    }
-
-    // The receipt that an accepted payment was given, 0 for every other answer.
-    pub fn receipt(self) -> u64
-        ensures { λ r. ⌜ r ≡ receiptOf self ⌝ }
-    {
-        match self {
-            Answer::Accepted(n) => n,
-            Answer::Refused(_) => 0,
         }
     }
 }
