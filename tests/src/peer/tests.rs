@@ -397,6 +397,9 @@ fn a_bad_book_prints_its_number() {
     assert_eq!(changed(24, 17), b"book refused 21\n");
     assert_eq!(changed(27, 1), b"book refused 21\n");
     assert_eq!(report(&[0; 8]), b"account owed held open service refused\n");
+    let empty = |accounts| writer::encode(&vec![vec![]; accounts]);
+    assert!(report(&empty(1_024)).starts_with(b"account"));
+    assert_eq!(report(&empty(1_025)), b"book refused 20\n");
 }
 
 #[test]
