@@ -15,14 +15,13 @@ use Rattle.rules.specs.Kinds.{bill, payment, depositPaid, payout}
 use Rattle.rules.specs.Answer.{numberOf, receiptOf}
 use Rattle.rules.specs.History.{History, finalDay, lastPosted, total}
 use Rattle.rules.specs.Deposit.{held, required}
-use Rattle.rules.specs.Money.{credits, owed, openItems, arrears}
+use Rattle.rules.specs.Money.{credits, owed, unpaid, openItems, arrears}
 use Rattle.rules.specs.Service.{service}
 use Rattle.rules.specs.Notice.{noticeLive}
 use Rattle.rules.specs.Medical.{certified}
 use Rattle.rules.specs.Arrangement.{inForce}
 use Rattle.rules.specs.Sums.{lateCharges, feesCharged, returnedPayments}
 use Rattle.rules.specs.Accepted.{dayRefusal, accepted, answersBy, refusalsAfter, receiptsAfter, cutOn, mayCut}
-use Rattle.ledger.specs.Ledger.{seen}
 use Rattle.account.specs.State.{accountSize, wordsOf, accountOf, passes}
 use Rattle.account.specs.Post.{answerTo, Leaves}
 use Rattle.questions.specs.Questions.{owedIn, heldIn, requiredIn, serviceIn, openIn, countIn, arrearsOn, inForceOn, noticeLiveOn, certifiedOn, Tells, Says}
@@ -58,8 +57,9 @@ pub record ClaimOf (m : List ℕ) (said : List Answer) (es : List Event) (h : Hi
   pub holding : heldIn m ≡ held h
   -- required is the sum last asked since the last was moved
   pub requiring : requiredIn m ≡ required h
-  -- the open items, day and unpaid part in the order posted, are the items whose unpaid part min(a_k, max(0, C_k − P)) is above 0
-  pub opens : openIn m ≡ map (seen (credits h)) (openItems h)
+  -- the open items, in the order posted, are the items whose unpaid part min(a_k, max(0, C_k − P)) is above 0: the day of each, and that part
+  pub open-days : map (λ x. x .day) (openIn m) ≡ map (λ x. x .day) (openItems h)
+  pub open-parts : map (λ x. x .unpaid) (openIn m) ≡ map (unpaid (credits h)) (openItems h)
   -- and as many of them as it says are open
   pub counting : countIn m ≡ length (openItems h)
   -- service is as the last event that sets it says

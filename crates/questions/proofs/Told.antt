@@ -2,12 +2,12 @@
 use Prim.Native.Nat.{ℕ, _≤_}
 use mathlib.Core.Path.{_≡_, refl, ap, sym, _∙_}
 use mathlib.Core.Bool.{Bool, true, false}
-use mathlib.Core.List.{List, map}
+use mathlib.Core.List.{List, map, map-map}
 use lib.ListN.{length}
 use Rattle.basics.proofs.Cases.{on-lt}
 use Rattle.rules.specs.History.{History, finalDay, lastPosted}
 use Rattle.rules.specs.Deposit.{held, required}
-use Rattle.rules.specs.Money.{credits, owed, openItems, arrears}
+use Rattle.rules.specs.Money.{credits, owed, unpaid, openItems, arrears}
 use Rattle.rules.specs.Service.{service}
 use Rattle.rules.specs.Notice.{noticeLive}
 use Rattle.rules.specs.Medical.{certified}
@@ -57,8 +57,14 @@ module _ (h : History) (k : Laws h) where
   pub service-is : serviceIn (wordsOf (accountOf h)) ≡ service h
   service-is = asked-is _ _ ∙ k .on-collection .service-is
 
-  pub open-are : openIn (wordsOf (accountOf h)) ≡ map (seen (credits h)) (openItems h)
+  open-are : openIn (wordsOf (accountOf h)) ≡ map (seen (credits h)) (openItems h)
   open-are = asked-is _ _ ∙ rw (k .on-ledger .credits-is, k .on-ledger .open-are)
+
+  pub open-days : map (λ x. x .day) (openIn (wordsOf (accountOf h))) ≡ map (λ x. x .day) (openItems h)
+  open-days = ap (map (λ x. x .day)) open-are ∙ map-map _ _ (openItems h)
+
+  pub open-parts : map (λ x. x .unpaid) (openIn (wordsOf (accountOf h))) ≡ map (unpaid (credits h)) (openItems h)
+  open-parts = ap (map (λ x. x .unpaid)) open-are ∙ map-map _ _ (openItems h)
 
   pub count-is : countIn (wordsOf (accountOf h)) ≡ length (openItems h)
   count-is = asked-is _ _ ∙ k .on-ledger .count-is
