@@ -58,28 +58,16 @@ pub fn fresh(account: &mut [u64]) -> u8 {
 
 /// Posts one event, of any kind and any numbers. A refused event leaves the memory as it was.
 #[inline]
-pub fn post(account: &mut [u64], event: Event) -> u64 {
-    let Event {
-        kind,
-        option,
-        day,
-        amount,
-    } = event;
+pub fn post(account: &mut [u64], e: Event) -> u64 {
     let (at, words) = (account.as_mut_ptr(), account.len());
-    unsafe { hollupaq_post(at, words, kind, option, day, amount) }
+    unsafe { hollupaq_post(at, words, e.kind, e.option, e.day, e.amount) }
 }
 
 /// The same on one of many accounts that lie one after another, counted from 0: 0 where there is none.
 #[inline]
-pub fn post_at(accounts: &mut [u64], index: usize, event: Event) -> u64 {
-    let Event {
-        kind,
-        option,
-        day,
-        amount,
-    } = event;
+pub fn post_at(accounts: &mut [u64], index: usize, e: Event) -> u64 {
     let (at, words) = (accounts.as_mut_ptr(), accounts.len());
-    unsafe { hollupaq_post_at(at, words, index, kind, option, day, amount) }
+    unsafe { hollupaq_post_at(at, words, index, e.kind, e.option, e.day, e.amount) }
 }
 
 /// What is owed in cents, negative where there is credit.
