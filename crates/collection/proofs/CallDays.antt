@@ -60,7 +60,13 @@ step c e day t k d l =
     on (is call e)
     (λ q. on-eq (c .last) (e .day + 1)
     (λ s z. simp (q, s) (simp (z, recent-day, or-twice)))
-    (λ s z. simp (q, s, recent-day, absorb (recentBy (c .last) t) (recentBy (c .earlier) t) (λ b. recent-in _ _ (omega (arith, recent-true _ _ b)) (omega (arith, recent-true _ _ b)) (omega (arith, recent-true _ _ b))))))
+    (λ s z. simp (
+      q,
+      s,
+      recent-day,
+      absorb (recentBy (c .last) t) (recentBy (c .earlier) t) (λ b. recent-in _ _ (omega (arith, recent-true _ _ b)) (omega
+          (arith, recent-true _ _ b)) (omega (arith, recent-true _ _ b))),
+    )))
     (λ q. simp q)
 
 pub called-is : (h : History) (t : ℕ) → Sorted h → lastPosted h ≤ t → calledBy (collectionOf h .calls) t ≡ called h t

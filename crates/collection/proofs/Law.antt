@@ -64,5 +64,13 @@ collection-law h w =
       live-is = λ t l. sym (surviving-is (λ n. n) h t s (alone h w) l);
       in-days-is = λ t l. sym (surviving-is (λ n. n + 5) h t s (alone h w) l);
       called-is = λ t l. called-is h t s l;
-      passes = simp (le-leb (collectionOf h .service) 2 (service-in h), le-leb (collectionOf h .notice .live) 1 (live-in h), le-leb (collectionOf h .notice .day) finalDay (omega (arith, day-past h s)), le-leb (collectionOf h .calls .last) (finalDay + 1) (omega arith), le-leb (collectionOf h .calls .earlier) (collectionOf h .calls .last) (omega arith));
+      passes = simp (
+        le-leb (collectionOf h .service) 2 (service-in h),
+        le-leb (collectionOf h .notice .live) 1 (live-in h),
+        le-leb
+            (collectionOf h .notice .day) finalDay (omega (arith, day-past h s)),
+        le-leb (collectionOf h .calls .last) (finalDay + 1) (omega arith),
+        le-leb
+            (collectionOf h .calls .earlier) (collectionOf h .calls .last) (omega arith),
+      );
     }

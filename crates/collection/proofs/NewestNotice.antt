@@ -18,7 +18,8 @@ use Rattle.collection.specs.declared.Notice.{Notice}
 use Rattle.collection.specs.Collection.{collectionOf}
 
 -- a notice that is not live on a day is not live later either
-gone : (f : ℕ → ℕ) (n : Notice) (b : Bool) (d t : ℕ) → (eqb (n .live) 1 && within (n .day) (n .day + 20) d) ≡ false → b ≡ (eqb (n .live) 1 && within (f (n .day)) (n .day + 20) t) → n .day ≤ d → d ≤ t → b ≡ false
+gone : (f : ℕ → ℕ) (n : Notice) (b : Bool) (d t : ℕ) → (eqb (n .live) 1 && within (n .day) (n .day + 20) d) ≡ false
+    → b ≡ (eqb (n .live) 1 && within (f (n .day)) (n .day + 20) t) → n .day ≤ d → d ≤ t → b ≡ false
 gone f n b d t off e p l =
     e ∙ never _ (λ on.
     let w = within-true (f (n .day)) (n .day + 20) t (and-right (eqb (n .live) 1) _ on) in

@@ -84,7 +84,14 @@ counted (e ∷ h) t s l =
     let ih = counted h t (s .1) (omega arith) in
     let k = kept h (s .1) in
     on (is finalNotice e)
-    (λ q. simp (q, recent-now (e .day) t l, ← ones-day) (omega (arith, ones-at-most (e .day + 1) t, ones-more (conductOf h .first) (e .day + 1) t (omega arith), ones-more _ _ t (k .two), ones-more _ _ t (k .three))))
+    (λ q. simp (q, recent-now (e .day) t l, ← ones-day) (omega (
+      arith,
+      ones-at-most (e .day + 1) t,
+      ones-more (conductOf h .first) (e .day + 1) t
+          (omega arith),
+      ones-more _ _ t (k .two),
+      ones-more _ _ t (k .three),
+    )))
     (λ q. simp q (omega arith))
 
 notices-are : (h : History) (t : ℕ) → Sorted h → lastPosted h ≤ t → not (inYearBy (conductOf h .third) t) ≡ leb (notices h t) 2

@@ -62,7 +62,8 @@ small true x k p q = p
 small false x k p q = q
 
 write-small : (cs ks os ds ms : List ℕ) (room : ℕ) → writeRefusal cs ks os ds ms room ≤ 22
-write-small cs ks os ds ms room = small (sizesFine cs ks os ds ms) _ 20 (small (kindsFine (length ks) 0 ks) _ 21 (small (leb (size (length cs) (length ks)) room) 0 22 (omega arith) (omega arith)) (omega arith)) (omega arith)
+write-small cs ks os ds ms room = small (sizesFine cs ks os ds ms) _ 20 (small (kindsFine (length ks) 0 ks) _ 21 (small (leb (size (length cs)
+    (length ks)) room) 0 22 (omega arith) (omega arith)) (omega arith)) (omega arith)
 
 told-taken : (n v k : ℕ) → n ≤ 22 → 256 + k ≡ told n v → (n ≡ 0) × (k ≡ v)
 told-taken zero v k h e = (refl, omega (arith, e))

@@ -204,7 +204,8 @@ module _ (cs : List ℕ) (es : List Event) (few : length cs ≤ mostAccounts) (s
   book-counts = simp append-assoc at (counts-at cs (base (length cs)) 8 (le 4 (length cs) ++ le 4 (length es)) (body es) (simp (length-append, length-le)) (omega arith))
 
   book-events : eventsAt (length es) (base (length cs)) (bookOf cs es) ≡ es
-  book-events = simp (append-assoc, append-nil) at (events-at es (base (length cs)) (le 4 (length cs) ++ (le 4 (length es) ++ table (base (length cs)) cs)) [] (simp (length-append, length-le, length-table) (omega arith)) storable)
+  book-events = simp (append-assoc, append-nil) at (events-at es (base (length cs)) (le 4 (length cs) ++ (le 4 (length es) ++ table (base
+      (length cs)) cs)) [] (simp (length-append, length-le, length-table) (omega arith)) storable)
 
   book-table : tableFine (base (length cs)) (length es) (length cs) 8 0 (bookOf cs es) ≡ true
   book-table =
@@ -212,7 +213,8 @@ module _ (cs : List ℕ) (es : List Event) (few : length cs ≤ mostAccounts) (s
       simp append-assoc at (rw z at (table-at cs (base (length cs)) (length es) 8 0 (le 4 (length cs) ++ le 4 (length es)) (body es) (simp (length-append, length-le)) (omega arith) (omega arith)))
 
   book-storable : recordsFine (length es) (base (length cs)) (bookOf cs es) ≡ true
-  book-storable = simp (append-assoc, append-nil) at (records-at es (base (length cs)) (le 4 (length cs) ++ (le 4 (length es) ++ table (base (length cs)) cs)) [] (simp (length-append, length-le, length-table) (omega arith)) storable)
+  book-storable = simp (append-assoc, append-nil) at (records-at es (base (length cs)) (le 4 (length cs) ++ (le 4 (length es) ++ table (base
+      (length cs)) cs)) [] (simp (length-append, length-le, length-table) (omega arith)) storable)
 
   pub book-decoded : decode (bookOf cs es) ≡ split cs es
   book-decoded = rw (book-accounts, book-records, book-counts, book-events)

@@ -18,7 +18,8 @@ use Rattle.ledger.proofs.ByKind.{one-thing}
 
 pub ledger-fit : (l : Ledger) → ledgerOk l ≡ true → LedgerFit l
 ledger-fit l e =
-    let r = links (leb (l .charged) limit) (leb (l .credited) limit ∷ leb (l .«paid_out») (l .credited) ∷ leb (l .made) (l .charged) ∷ leb (l .closed) (l .made) ∷ leb (l .made - l .closed) mostOpen ∷ isSettled l ∷ []) e in
+    let r = links (leb (l .charged) limit) (leb (l .credited) limit ∷ leb (l .«paid_out») (l .credited) ∷ leb (l .made) (l .charged) ∷ leb (l .closed)
+    (l .made) ∷ leb (l .made - l .closed) mostOpen ∷ isSettled l ∷ []) e in
     record {
       charged-le = leb-true _ _ (r .0);
       credited-le = leb-true _ _ (r .1 .0);

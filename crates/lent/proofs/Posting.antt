@@ -132,8 +132,10 @@ module _ (T E S : Data) (p : Two S T) (T′ : Laws T) (E′ : Laws E) (S′ : La
           -- [what r owns; the cell; the open borrow; obs; auth; _4; …; room for _3; …; _2; …; _1; …; room for _0; …; true; true]
           land ! (from ! (stop !)) (init ! 7 refl (P′ .laws .lawful 𝓤 H A W .typed r _ is .0)) $
           rewrite ! 7 (λ (u : Val). ‵ (fat fullShare (P .mir) l₃ 0 u)) (ap only (P′ .laws .tells r (v ∷ []) is)) refl $
-          assigns ! (of-opd ! (load ! (from ! (fld ! refl (stop !))) (look-in ! 7 (sub ! 1 refl (whole !))))) (from ! (hop ! (look ! 11 refl) (stop !))) (store-raw ! 1 refl (T′ .lawful 𝓤 H A W .typed (p .second r) _ (P′ .parts r v is .1) .0)) $
-          assigns ! (of-opd ! (load ! (from ! (fld ! refl (stop !))) (look-in ! 7 (sub ! 0 refl (whole !))))) (from ! (stop !)) (init ! 13 refl (S′ .lawful 𝓤 H A W .typed (p .first r) _ (P′ .parts r v is .0) .0)) $
+          assigns ! (of-opd ! (load ! (from ! (fld ! refl (stop !))) (look-in ! 7 (sub ! 1 refl (whole !))))) (from ! (hop ! (look ! 11 refl) (stop !)))
+          (store-raw ! 1 refl (T′ .lawful 𝓤 H A W .typed (p .second r) _ (P′ .parts r v is .1) .0)) $
+          assigns ! (of-opd ! (load ! (from ! (fld ! refl (stop !))) (look-in ! 7 (sub ! 0 refl (whole !))))) (from ! (stop !)) (init ! 13 refl
+          (S′ .lawful 𝓤 H A W .typed (p .first r) _ (P′ .parts r v is .0) .0)) $
           -- the borrow is closed at the new account
           drop ! $ owned ! (row T) (Is (row T)) (T′ .makes 𝓤 H A W) (p .second r) _ (P′ .parts r v is .1) $ move ! (1 ∷ 0 ∷ []) $ closes ! tt (row T) (p .second r) (vals T (p .second r)) b o $
           returns ! (look ! 11 refl) $ forget ! 3 refl $ forget ! 5 refl $ forget ! 7 refl $ forget ! 9 refl $ forget ! 11 refl $

@@ -116,8 +116,10 @@ module _ (T E S : Data) (p : Two S T) (T′ : Laws T) (E′ : Laws E) (S′ : La
 
     exits : (r : S .Denot) (z : T .Denot) → Is (row P) (p .make r z) (of S T p r z ∷ []) → Said r z → ent 𝓤 (emp 𝓤) (Post (of S T p r z))
     exits r z is eq =
-        qed W [] ∵ suffices ! _ (ends-at 𝓤 H A through stayed (Through 𝓤 H A) W ((tt, tt, tt, (h, (e, tt)), (vals T h, (vals E e, tt))), tt) (of S T p r z) (p .make r z) (tt, (tt, tt)) (tt, (tt, tt))) $
-        says ! (ap (λ (s : S .Denot). p .make s z) (eq .0) ∙ (ap (p .make (p .first (posted h e))) (eq .1) ∙ P′ .whole (posted h e))) $ nothing ! $ owned ! (row E) (Is (row E)) (E′ .makes 𝓤 H A W) e _ is-e $ fjoin ! $
+        qed W [] ∵ suffices ! _ (ends-at 𝓤 H A through stayed (Through 𝓤 H A) W ((tt, tt, tt, (h, (e, tt)), (vals T h, (vals E e, tt))), tt) (of S T p r z)
+        (p .make r z) (tt, (tt, tt)) (tt, (tt, tt))) $
+        says ! (ap (λ (s : S .Denot). p .make s z) (eq .0) ∙ (ap (p .make (p .first (posted h e))) (eq .1)
+        ∙ P′ .whole (posted h e))) $ nothing ! $ owned ! (row E) (Is (row E)) (E′ .makes 𝓤 H A W) e _ is-e $ fjoin ! $
         owned ! (row T) (Is (row T)) (T′ .makes 𝓤 H A W) h _ is-h $ fjoin ! $
         owned ! (row P) (Is (row P)) (P′ .laws .makes 𝓤 H A W) (p .make r z) _ is $ move ! (1 ∷ 0 ∷ []) $ nothing ! $ done !
 
@@ -132,13 +134,16 @@ module _ (T E S : Data) (p : Two S T) (T′ : Laws T) (E′ : Laws E) (S′ : La
           assigns ! (addr ! (from ! (stop !))) (from ! (stop !)) (init ! 2 refl (tt, tt)) $
           -- the local is lent for a lifetime α of the call
           move ! (6 ∷ []) $ use1 W (‵ (partAt (row T) fullShare h l₃ 0)) (lies-in 𝓤 H A W h l₃ is-h) $ lft-new ! tt (λ α. move ! (1 ∷ []) $
-          use1 W (later (some (λ (δ : GName). ‵ (Loan α l₃ δ) ⊛ ‵ (flent (α ∷ []) (Body (mem (row T)) l₃ 0 δ))))) (lends-ref 𝓤 H A W (row T) (named 0) (α ∷ []) h l₃ 0) $ await ! tt $ pick ! (λ δ. split ! $
+          use1 W (later (some (λ (δ : GName). ‵ (Loan α l₃ δ) ⊛ ‵ (flent (α ∷ []) (Body (mem (row T)) l₃ 0 δ))))) (lends-ref 𝓤 H A W (row T) (named 0)
+          (α ∷ []) h l₃ 0) $ await ! tt $ pick ! (λ δ. split ! $
           move ! (2 ∷ 0 ∷ []) $ use2 W (raw (LentTriple 𝓤 H A .pre (to-lent α l₃ δ))) (goes-lent α l₃ δ) $
           -- [what `post_lent` asks; the lender's part; room for _6; …; _5; …; room for _4; …; …; _2; …; _1; …; room for _0; …]
           calls-at ! fm (LentTriple 𝓤 H A) known (to-lent α l₃ δ) (and-then ! (load ! (from ! (stop !)) (look ! 4 refl)) (and-then ! (load ! (from ! (stop !)) (look ! 9 refl)) (no-more !))) (λ v.
-          use1 W (later (some (λ (r : S .Denot). ((‵ (flft (α ∷ []) fullShare) ⊛ ‵ ftrue) ⊛ ‵ (S .own r (v ∷ []))) ⊛ raw (ensured 𝓤 H A lent (Lent 𝓤 H A) (α ∷ [], tt) (x l₃ δ, (e, tt)) tt r)))) (id⊢ 𝓤 _) $ await ! tt $ pick ! (λ r.
+          use1 W (later (some (λ (r : S .Denot). ((‵ (flft (α ∷ []) fullShare) ⊛ ‵ ftrue) ⊛ ‵ (S .own r (v ∷ []))) ⊛ raw (ensured 𝓤 H A lent (Lent 𝓤 H A)
+          (α ∷ [], tt) (x l₃ δ, (e, tt)) tt r)))) (id⊢ 𝓤 _) $ await ! tt $ pick ! (λ r.
           -- what `post_lent` ensures, at some last account
-          split ! $ move ! (1 ∷ []) $ use1 W (some (λ (zs : T .Denot × (Unit {0} × Unit {0})). ‵ (lasts lent (α ∷ [], tt) (x l₃ δ, (e, tt)) zs) ⊛ raw (fact 𝓤 (Said r (zs .0))))) (id⊢ 𝓤 _) $ pick ! (λ zs.
+          split ! $ move ! (1 ∷ []) $ use1 W (some (λ (zs : T .Denot × (Unit {0}
+          × Unit {0})). ‵ (lasts lent (α ∷ [], tt) (x l₃ δ, (e, tt)) zs) ⊛ raw (fact 𝓤 (Said r (zs .0))))) (id⊢ 𝓤 _) $ pick ! (λ zs.
           split ! $ move ! (1 ∷ []) $ heard ! (Said r (zs .0)) (λ eq. fsplit ! $ move ! (2 ∷ []) $ split ! $ move ! (1 ∷ []) $
           -- [what r owns; the token; the last value; …; the lender's part; room for _6; …; _5; …; room for _4; …; …; _2; …; _1; …; room for _0; …]
           peeks ! (row S) (Is (row S)) (shows 𝓤 H A (row S)) r (v ∷ []) (λ is-r.
@@ -149,9 +154,11 @@ module _ (T E S : Data) (p : Two S T) (T′ : Laws T) (E′ : Laws E) (S′ : La
           use1 W (given (Is (row T) (zs .0) (vals T (zs .0))) (‵ (fat fullShare (T .mir) l₃ 0 (T .val (zs .0))))) (lies-out 𝓤 H A W (zs .0) l₃) $ learn ! (λ is-z.
           -- [_3; true; what r owns; …; room for _6; …; _5; …; _4; …; …; _2; …; _1; …; room for _0; …]
           assigns ! (of-opd ! (load ! (from ! (stop !)) (look ! 0 refl))) (from ! (stop !)) (init ! 4 refl (T′ .lawful 𝓤 H A W .typed (zs .0) _ is-z .0)) $
-          assigns ! (agg ! (and-then ! (load ! (from ! (stop !)) (look ! 8 refl)) (and-then ! (load ! (from ! (stop !)) (look ! 4 refl)) (no-more !)))) (from ! (stop !)) (init ! 15 refl (P′ .laws .lawful 𝓤 H A W .typed (p .make r (zs .0)) _ (joined r v (zs .0) is-r is-z) .0)) $
+          assigns ! (agg ! (and-then ! (load ! (from ! (stop !)) (look ! 8 refl)) (and-then ! (load ! (from ! (stop !)) (look ! 4 refl)) (no-more !))))
+          (from ! (stop !)) (init ! 15 refl (P′ .laws .lawful 𝓤 H A W .typed (p .make r (zs .0)) _ (joined r v (zs .0) is-r is-z) .0)) $
           returns ! (look ! 15 refl) $ forget ! 0 refl $ forget ! 4 refl $ forget ! 6 refl $ forget ! 8 refl $ forget ! 11 refl $ forget ! 13 refl $ forget ! 15 refl $
-          move ! (15 ∷ 16 ∷ []) $ free1 ! $ move ! (13 ∷ 14 ∷ []) $ free1 ! $ move ! (11 ∷ 12 ∷ []) $ free1 ! $ move ! (0 ∷ 10 ∷ []) $ free1 ! $ move ! (7 ∷ 8 ∷ []) $ free1 ! $ move ! (5 ∷ 6 ∷ []) $ free1 ! $ move ! (3 ∷ 4 ∷ []) $ free1 ! $ free0 ! $
+          move ! (15 ∷ 16 ∷ []) $ free1 ! $ move ! (13 ∷ 14 ∷ []) $ free1 ! $ move ! (11 ∷ 12 ∷ []) $ free1 ! $ move ! (0 ∷ 10 ∷ []) $ free1 ! $ move !
+          (7 ∷ 8 ∷ []) $ free1 ! $ move ! (5 ∷ 6 ∷ []) $ free1 ! $ move ! (3 ∷ 4 ∷ []) $ free1 ! $ free0 ! $
           keep ! [] $ by ! (exits r (zs .0) (joined r v (zs .0) is-r is-z) eq))))))))))))))))
 
   module _ {M : Type 1} (𝓤 : URA M) (H : Heap 𝓤) (A : Atoms 𝓤) (W : Given 𝓤 H A) where
@@ -163,7 +170,8 @@ module _ (T E S : Data) (p : Two S T) (T′ : Laws T) (E′ : Laws E) (S′ : La
     goes = (goes-none 𝓤 H A W 0 (λ _. (row T)) yes (λ κs x f. refl), (goes-none 𝓤 H A W 0 (λ _. (row E)) yes (λ κs x f. refl), tt))
 
     -- of the function's own clauses, which say the same
-    pub meets : (c : Clauses 𝓤 through) → c ≡ Through 𝓤 H A → (𝓣 : Tables 𝓤 H) → Triple 𝓤 (𝓣 .C f) (LentTriple 𝓤 H A) → Meets 𝓤 H A (through .signature) (WpFn 𝓤 H (𝓣 .C) (𝓣 .Λ) code) (closing 𝓤 H A through c)
+    pub meets : (c : Clauses 𝓤 through) → c ≡ Through 𝓤 H A → (𝓣 : Tables 𝓤 H) → Triple 𝓤 (𝓣 .C f) (LentTriple 𝓤 H A)
+        → Meets 𝓤 H A (through .signature) (WpFn 𝓤 H (𝓣 .C) (𝓣 .Λ) code) (closing 𝓤 H A through c)
     meets c same 𝓣 known = subst (λ (d : Clauses 𝓤 through). Meets 𝓤 H A (through .signature) (WpFn 𝓤 H (𝓣 .C) (𝓣 .Λ) code) (closing 𝓤 H A through d)) (sym same)
         (walk-meets 𝓤 H A through stayed W goes (Through 𝓤 H A) (WpFn 𝓤 H (𝓣 .C) (𝓣 .Λ) code) (WpFn-mono 𝓤 H (W .laws) 𝓣 code)
         (walks (𝓣 .C) (𝓣 .Λ) (fmOf 𝓤 H (W .laws) 𝓣) known))

@@ -10,7 +10,8 @@ use Rattle.book.proofs.account.Statement.{statement}
 use Rattle.book.proofs.account.Tie as tie
 
 -- the table is whole, and has account i
-some : (c : tie.Else1) → (base (accounts (c .before .before .before .args .b .now)) ≤ length (c .before .before .before .args .b .now)) × (c .before .before .before .args .i < accounts (c .before .before .before .args .b .now))
+some : (c : tie.Else1) → (base (accounts (c .before .before .before .args .b .now)) ≤ length (c .before .before .before .args .b .now))
+    × (c .before .before .before .args .i < accounts (c .before .before .before .args .b .now))
 some c = entries-some (c .before .before .before .args .b .now) (c .before .before .before .args .i) (omega arith)
 
 returns : tie.Need-returns

@@ -42,7 +42,8 @@ loop-again c =
     let l = r .before .before .loop in
     let y : toZ w64 (ofZ w64 (c .owed .result)) ≡ c .owed .result = search needs in
     let z = r .before .before .before .before .before .before .before .pre .0 in
-    note-turn _ _ _ _ (l .numbers) (l .owed) (l .k) (l .left) (l .at) (l .account .memory) (l .inv) (r .record .result) (p .post-through .result) (n .number .result) (toZ w64 (ofZ w64 (c .owed .result))) z (omega arith)
+    note-turn _ _ _ _ (l .numbers) (l .owed) (l .k) (l .left) (l .at) (l .account .memory) (l .inv) (r .record .result) (p .post-through .result)
+    (n .number .result) (toZ w64 (ofZ w64 (c .owed .result))) z (omega arith)
     (r .record .ensures .1 z) (p .post-through .ensures) (n .number .ensures) (y ∙ c .owed .ensures)
 
 same-length : tie.Need-same-length Inv-loop μ-loop

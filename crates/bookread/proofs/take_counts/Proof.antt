@@ -10,7 +10,8 @@ use Rattle.bookread.proofs.take_counts.Statement.{statement}
 use Rattle.bookread.proofs.take_counts.Tie as tie
 
 abbrev Inv-loop : tie.InvT-loop
-Inv-loop b n counts₀ left₀ at₀ i₀ counts left at i = (sets counts i (countsAt left at b) ≡ sets counts₀ 0 (countsAt n 8 b)) × (at + 8 * left ≡ base n) × (i + left ≡ n) × (length counts ≡ length counts₀)
+Inv-loop b n counts₀ left₀ at₀ i₀ counts left at i = (sets counts i (countsAt left at b) ≡ sets counts₀ 0 (countsAt n 8 b)) × (at + 8 * left ≡ base n)
+    × (i + left ≡ n) × (length counts ≡ length counts₀)
 
 abbrev μ-loop : tie.MeasureT-loop
 μ-loop b n counts₀ left₀ at₀ i₀ counts left at i = left

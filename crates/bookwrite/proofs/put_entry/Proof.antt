@@ -12,7 +12,8 @@ returns : tie.Need-returns
 returns c =
     let s = c .before .before .before .before .before .before .before .before .before .args in
     c .before .before .put2 .ensures
-    ∙ sets-then (le 4 (s .first)) (le 4 (s .n)) (s .out .now) (c .before .before .before .before .before .before .put .last .0) (s .p) (s .p + 4) (c .before .before .before .before .before .before .put .ensures) (omega (arith, length-le 4 (s .first)))
+    ∙ sets-then (le 4 (s .first)) (le 4 (s .n)) (s .out .now) (c .before .before .before .before .before .before .put .last .0) (s .p) (s .p + 4)
+    (c .before .before .before .before .before .before .put .ensures) (omega (arith, length-le 4 (s .first)))
 
 pub put-entry-spec : {M : Type 1} → statement M
 put-entry-spec =

@@ -16,10 +16,12 @@ returns c =
     let four = s .e .kind ∷ s .e .option ∷ 0 ∷ 0 ∷ [] in
     let o1 = c .before .before .before .before .before .before .before .before .before .before .before .put-marks .last .0 in
     let o2 = c .before .before .before .before .before .before .put .last .0 in
-    let e2 : o2 ≡ sets o1 (s .p + 4) (le 4 (s .e .day)) = c .before .before .before .before .before .before .put .ensures ∙ ap (λ n. sets o1 (s .p + 4) (le 4 n)) (c .before .before .before .before .before .before .before .wide32 .ensures .0) in
+    let e2 : o2 ≡ sets o1 (s .p + 4) (le 4 (s .e .day)) = c .before .before .before .before .before .before .put .ensures
+    ∙ ap (λ n. sets o1 (s .p + 4) (le 4 n)) (c .before .before .before .before .before .before .before .wide32 .ensures .0) in
     c .before .before .put2 .ensures
     ∙ sets-then (le 4 (s .e .day)) (le 8 (s .e .amount)) o1 o2 (s .p + 4) (s .p + 8) e2 (omega (arith, length-le 4 (s .e .day)))
-    ∙ sets-then four (le 4 (s .e .day) ++ le 8 (s .e .amount)) (s .out .now) o1 (s .p) (s .p + 4) (c .before .before .before .before .before .before .before .before .before .before .before .put-marks .ensures) refl
+    ∙ sets-then four (le 4 (s .e .day) ++ le 8 (s .e .amount)) (s .out .now) o1 (s .p) (s .p + 4)
+    (c .before .before .before .before .before .before .before .before .before .before .before .put-marks .ensures) refl
 
 pub put-record-spec : {M : Type 1} → statement M
 put-record-spec =

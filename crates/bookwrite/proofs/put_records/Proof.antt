@@ -12,7 +12,8 @@ use Rattle.bookwrite.proofs.put_records.Statement.{statement}
 use Rattle.bookwrite.proofs.put_records.Tie as tie
 
 abbrev Inv-loop : tie.InvT-loop
-Inv-loop kinds options days amounts out₀ p left₀ at₀ i₀ out left at i = (sets out at (body (lent left i kinds options days amounts)) ≡ sets out₀ p (body (lent (length kinds) 0 kinds options days amounts))) × (at + 16 * left ≡ p + 16 * length kinds) × (i + left ≡ length kinds) × (length out ≡ length out₀)
+Inv-loop kinds options days amounts out₀ p left₀ at₀ i₀ out left at i = (sets out at (body (lent left i kinds options days amounts)) ≡ sets out₀ p (body
+    (lent (length kinds) 0 kinds options days amounts))) × (at + 16 * left ≡ p + 16 * length kinds) × (i + left ≡ length kinds) × (length out ≡ length out₀)
 
 abbrev μ-loop : tie.MeasureT-loop
 μ-loop kinds options days amounts out₀ p left₀ at₀ i₀ out left at i = left

@@ -11,7 +11,10 @@ use Rattle.bookwrite.proofs.write_refusal.Statement.{statement}
 use Rattle.bookwrite.proofs.write_refusal.Tie as tie
 
 -- the sizes, after the first test
-fits : (c : tie.Else1) → Sizes (c .before .before .before .before .before .before .before .args .counts .now) (c .before .before .before .before .before .before .before .args .kinds .now) (c .before .before .before .before .before .before .before .args .options .now) (c .before .before .before .before .before .before .before .args .days .now) (c .before .before .before .before .before .before .before .args .amounts .now)
+fits : (c : tie.Else1) → Sizes (c .before .before .before .before .before .before .before .args .counts .now)
+    (c .before .before .before .before .before .before .before .args .kinds .now)
+    (c .before .before .before .before .before .before .before .args .options .now)
+    (c .before .before .before .before .before .before .before .args .days .now) (c .before .before .before .before .before .before .before .args .amounts .now)
 fits c = sizes-facts _ _ _ _ _ (sym (c .before .sizes-fine .ensures) ∙ not-false _ (c .if1 .left))
 
 returns : tie.Need-returns
@@ -33,14 +36,18 @@ returns-3 : tie.Need-returns-3
 returns-3 c = simp (
   sym (c .before .before .before .before .sizes-fine .ensures) ∙ not-false _ (c .before .before .before .if1 .left),
   sym (c .before .before .kinds-fine .ensures) ∙ not-false _ (c .before .if2 .left),
-  lt-leb (base (length (c .before .before .before .before .before .before .before .before .before .before .args .counts .now)) + 16 * length (c .before .before .before .before .before .before .before .before .before .before .args .kinds .now)) (c .before .before .before .before .before .before .before .before .before .before .args .room) (omega arith),
+  lt-leb (base (length (c .before .before .before .before .before .before .before .before .before .before .args .counts .now)) + 16 * length
+      (c .before .before .before .before .before .before .before .before .before .before .args .kinds .now))
+      (c .before .before .before .before .before .before .before .before .before .before .args .room) (omega arith),
 )
 
 returns-4 : tie.Need-returns-4
 returns-4 c = simp (
   sym (c .before .before .before .before .sizes-fine .ensures) ∙ not-false _ (c .before .before .before .if1 .left),
   sym (c .before .before .kinds-fine .ensures) ∙ not-false _ (c .before .if2 .left),
-  le-leb (base (length (c .before .before .before .before .before .before .before .before .before .before .args .counts .now)) + 16 * length (c .before .before .before .before .before .before .before .before .before .before .args .kinds .now)) (c .before .before .before .before .before .before .before .before .before .before .args .room) (omega arith),
+  le-leb (base (length (c .before .before .before .before .before .before .before .before .before .before .args .counts .now)) + 16 * length
+      (c .before .before .before .before .before .before .before .before .before .before .args .kinds .now))
+      (c .before .before .before .before .before .before .before .before .before .before .args .room) (omega arith),
 )
 
 pub write-refusal-spec : {M : Type 1} → statement M

@@ -7,7 +7,8 @@ use Rattle.collection.proofs.change.Tie as tie
 returns : tie.Need-returns
 returns c =
     let s = c .before .before .before .before .before .before .before .before in
-    c .before .before .store .ensures ∙ (c .before .before .before .before .after .ensures ∙ ap (λ k. collectionAfter k (s .args .e) (s .args .arrears)) (c .before .before .before .before .before .load .ensures))
+    c .before .before .store .ensures ∙ (c .before .before .before .before .after .ensures
+    ∙ ap (λ k. collectionAfter k (s .args .e) (s .args .arrears)) (c .before .before .before .before .before .load .ensures))
 
 pub change-spec : {M : Type 1} → statement M
 change-spec =

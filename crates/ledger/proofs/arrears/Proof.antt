@@ -31,8 +31,12 @@ loop-again c =
     let q = test .before .before .before .before .before in
     let a = q .before .before .args in
     let s = drop 6 (a .w .now) in
-    let r = due-is (q .credits .result) (a .t) (c .before .due .result) (day .result) (amount .result) (upto .result) (l .k) (l .below) s (c .before .due .ensures) (day .ensures) (amount .ensures) (upto .ensures) in
-    (omega (arith, c .plus .ensures), rw (upto .ensures) (sum-turn (due (q .credits .result) (a .t)) (getD (a .w .now) 3 0) (l .k) (l .below) (l .sum) (c .before .due .result) (c .plus .result) _ s (test .loop-test .taken) r (c .plus .ensures) (l .inv .1)))
+    let r = due-is (q .credits .result) (a .t) (c .before .due .result) (day .result) (amount .result) (upto .result) (l .k) (l .below) s
+    (c .before .due .ensures) (day .ensures) (amount .ensures) (upto .ensures) in (
+      omega (arith, c .plus .ensures),
+      rw (upto .ensures) (sum-turn (due (q .credits .result) (a .t)) (getD (a .w .now) 3 0) (l .k) (l .below) (l .sum)
+          (c .before .due .result) (c .plus .result) _ s (test .loop-test .taken) r (c .plus .ensures) (l .inv .1)),
+    )
 
 returns : tie.Need-returns Inv-loop μ-loop
 returns c =

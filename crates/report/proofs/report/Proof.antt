@@ -35,8 +35,13 @@ returns-2 c =
 
 put-listing-requires : tie.Need-put-listing-requires
 put-listing-requires c κs =
-    let s = c .before .before .before .before .before .before .before .before .args in
-    (sym (c .before .before .before .before .before .book-refusal .ensures) ∙ c .before .before .before .before .if1 .left, c .before .before .before .get .ensures .0, ltb-false _ _ (sym (c .before .before .is-short .ensures) ∙ c .before .if2 .left))
+    let s = c .before .before .before .before .before .before .before .before .args in (
+      sym (c .before .before .before .before .before .book-refusal .ensures)
+          ∙ c .before .before .before .before .if1 .left,
+      c .before .before .before .get .ensures .0,
+      ltb-false _ _ (sym
+          (c .before .before .is-short .ensures) ∙ c .before .if2 .left),
+    )
 
 returns-3 : tie.Need-returns-3
 returns-3 c =
@@ -44,7 +49,8 @@ returns-3 c =
     let b = s .b .now in
     let z : bookRefusal b ≡ 0 = sym (c .before .before .before .before .before .before .before .before .book-refusal .ensures) ∙ c .before .before .before .before .before .before .before .if1 .left in
     let f : textBy (bookRefusal b) b ≡ listing b = ap (λ k. textBy k b) z in
-    rw f (written (listing b) (s .out .now) _ _ (ltb-false _ _ (sym (c .before .before .before .before .before .is-short .ensures) ∙ c .before .before .before .before .if2 .left)) (c .before .before .put-listing .ensures))
+    rw f (written (listing b) (s .out .now) _ _ (ltb-false _ _ (sym (c .before .before .before .before .before .is-short .ensures)
+    ∙ c .before .before .before .before .if2 .left)) (c .before .before .put-listing .ensures))
 
 pub report-spec : {M : Type 1} → statement M
 report-spec =

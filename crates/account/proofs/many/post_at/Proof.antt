@@ -14,7 +14,8 @@ returns c =
     let s = t .before .before in
     let a = s .args in
     let z : a .i * accountSize + accountSize - a .i * accountSize ≡ accountSize = omega arith in
-    leaves-at (a .i) (a .i * accountSize + accountSize - a .i * accountSize) (a .all .now) (p .post .last .0) (a .e) (p .post .result) z (omega (arith, t .if1 .taken)) (p .post .ensures .answer-is) (p .post .ensures .words-are)
+    leaves-at (a .i) (a .i * accountSize + accountSize - a .i * accountSize) (a .all .now) (p .post .last .0) (a .e) (p .post .result) z (omega
+    (arith, t .if1 .taken)) (p .post .ensures .answer-is) (p .post .ensures .words-are)
 
 returns-2 : tie.Need-returns-2
 returns-2 c =

@@ -9,8 +9,14 @@ step-requires c κs =
     let k = c .before in
     let s = k .before .before .before in
     let a = s .args in
-    let p = s .pre in
-    (search needs, (p .fit .fit .ledger-fit, rw (k .credit .ensures, k .before .charges .ensures, charge-exact (a .m .now) (a .e) (a .v) (a .charge) p) (money-room (a .m .now) (a .e) (a .v) (a .charge) p)))
+    let p = s .pre in (
+      search needs,
+      (
+        p .fit .fit .ledger-fit,
+        rw (k .credit .ensures, k .before .charges .ensures, charge-exact (a .m .now) (a .e) (a .v) (a .charge) p)
+            (money-room (a .m .now) (a .e) (a .v) (a .charge) p),
+      ),
+    )
 
 step-requires-2 : tie.Need-step-requires-2
 step-requires-2 c κs =

@@ -14,7 +14,8 @@ returns c =
     rw e (stored-not (s .counts .now) (s .kinds .now) (s .options .now) (s .days .now) (s .amounts .now) (s .out .now) _ _ (w .write .ensures .0) (rw e at (c .if1 .taken)))
 
 -- the list was written, so its sizes are small
-sizes : (c : tie.Else1) → (let s = c .before .before .before .before .before .before .before .before .before .before .before .before .args in Sizes (s .counts .now) (s .kinds .now) (s .options .now) (s .days .now) (s .amounts .now))
+sizes : (c : tie.Else1) → (let s = c .before .before .before .before .before .before .before .before .before .before .before .before .args in Sizes
+    (s .counts .now) (s .kinds .now) (s .options .now) (s .days .now) (s .amounts .now))
 sizes c =
     let w = c .before .before .before .before in
     let s = w .before .before .before .before .before .before .before .before .args in

@@ -12,8 +12,11 @@ returns c =
     let d = c .before .before .before .width2 in
     let e = c .before .before .width3 in
     let f = c .before .word-length in
-    let g = c .width4 in
-    (omega (arith, standing-length (s .i) (s .s), a .ensures, b .ensures, d .ensures, e .ensures, f .ensures, g .ensures), omega (arith, a .ensures, b .ensures, d .ensures, e .ensures, f .ensures, g .ensures))
+    let g = c .width4 in (
+      omega (arith, standing-length (s .i) (s .s), a .ensures, b .ensures, d .ensures, e .ensures, f .ensures, g .ensures),
+      omega
+          (arith, a .ensures, b .ensures, d .ensures, e .ensures, f .ensures, g .ensures),
+    )
 
 pub line-length-spec : {M : Type 1} → statement M
 line-length-spec =
