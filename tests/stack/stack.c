@@ -28,7 +28,7 @@ enum {
     BOOK = 65536,          /* the longest book here, in bytes */
     RECORDS = BOOK / 16,   /* more than it can have */
     KEPT = 3,              /* accounts in one memory */
-    ROOM = 4 * HOLLUPAQ_STACK / 8
+    ROOM = 2 * HOLLUPAQ_STACK / 8 /* words: a call that takes more is seen */
 };
 
 /* What the calls take and give. */
