@@ -108,6 +108,8 @@ fn services_are_those_of_accounts() {
 fn an_account_has_the_words_that_the_header_says() {
     assert_eq!(defined("HOLLUPAQ_WORDS"), WORDS as u64);
     assert_eq!(defined("HOLLUPAQ_WORDS"), lent::words());
+    let size = format!("{WORDS} words of 64 bits, 1,{} bytes", WORDS * 8 - 1_000);
+    assert!(read("README.md").contains(&size), "README has no {size}");
     assert_eq!(defined("HOLLUPAQ_ACCEPTED"), ACCEPTED);
 }
 
