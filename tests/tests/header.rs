@@ -3,9 +3,10 @@
 use std::fs;
 use std::path::Path;
 use tools::core::lent::{self, ACCEPTED, WORDS};
-use tools::core::{self, Account};
+use tools::core::{self, books, Account};
 use tools::event::Event;
 use tools::kinds::KINDS;
+use tools::text;
 
 fn read(name: &str) -> String {
     let path = Path::new(env!("CARGO_MANIFEST_DIR")).join("..").join(name);
@@ -71,6 +72,76 @@ fn readme_has_every_refusal_once() {
         .filter_map(|line| line.strip_prefix("| ")?.split(' ').next()?.parse().ok())
         .collect();
     assert_eq!(numbers, (1..=22).collect::<Vec<u64>>());
+}
+
+/// For each name of a rule, a history whose last event it refuses, as bookfile reads it.
+fn histories() -> Vec<(&'static str, String)> {
+    let noticed = "0 bill 6000; 20 notice; ";
+    let cut = "0 bill 6000; 20 notice; 22 call; 25 cut; ";
+    let open = "0 fee 1; ".repeat(64);
+    let paid = "0 bill 10000000000; 0 payment 10000000000; ".repeat(100);
+    [
+        ("LATE_DAY", "", "73049 bill 1"),
+        ("EARLY_DAY", "5 call; ", "4 call"),
+        ("FIELD", "", "0 bill 0"),
+        ("CLOSED", "0 close; ", "0 close"),
+        ("SERVICE", "", "0 reconnection 0"),
+        ("RECEIPT", "", "0 returned 1"),
+        ("SUM", "", "0 payout 1"),
+        (
+            "NOT_EARNED",
+            "10 deposit-asked 9; 10 deposit-paid 9; ",
+            "374 deposit-moved",
+        ),
+        ("ARRANGEMENT", "", "0 arrangement 2"),
+        ("LOW_ARREARS", "", "0 cut"),
+        ("NOTICE_LIVE", noticed, "20 notice"),
+        ("NO_NOTICE", noticed, "22 call; 24 cut"),
+        ("NO_CALL", noticed, "21 call; 25 cut"),
+        ("IN_FORCE", noticed, "22 call; 22 arrangement 2; 25 cut"),
+        ("CERTIFICATE", noticed, "21 certificate 5; 22 call; 25 cut"),
+        ("ARREARS", cut, "25 reconnection 0"),
+        (
+            "LOW_DEPOSIT",
+            cut,
+            "25 payment 7500; 25 deposit-asked 1; 25 reconnection 0",
+        ),
+        ("OPEN_CHARGES", &open, "0 fee 1"),
+        ("TOTAL", &paid, "0 bill 1"),
+    ]
+    .map(|(name, before, last)| (name, format!("{before}{last}")))
+    .to_vec()
+}
+
+#[test]
+fn a_name_says_what_is_refused() {
+    let histories = histories();
+    assert_eq!(histories.len(), 19);
+    for (name, history) in histories {
+        let text = format!("account # 0\n{}\n", history.replace("; ", "\n"));
+        let list = text::read(&text).unwrap_or_else(|e| panic!("{name}: {e:?}"));
+        let (last, before) = list[0].split_last().unwrap();
+        let mut account = fresh();
+        for event in before {
+            let answer = lent::post(&mut account, *event);
+            assert!(answer >= ACCEPTED, "{name}: {event:?} is refused {answer}");
+        }
+        let refused = number(&format!("REFUSED_{name}"));
+        assert_eq!(lent::would_answer(&account, *last), refused, "{name}");
+        assert_eq!(lent::post(&mut account, *last), refused, "{name}");
+    }
+}
+
+#[test]
+fn a_name_says_why_a_book_is_refused() {
+    let refused = |name: &str| Err(number(&format!("REFUSED_{name}")) as u8);
+    assert_eq!(core::history(&[0; 7], 0).map(|_| ()), refused("BOOK"));
+    let mut book = books::write(&vec![vec![Event::of(1, 0, 1)]]).unwrap();
+    let mut numbers = [0; 0];
+    let too_short = core::history_into(&book, 0, &mut numbers, &mut [0]);
+    assert_eq!(too_short, refused("TOO_SHORT"));
+    book[16] = 17; // the kind of the record
+    assert_eq!(core::history(&book, 0).map(|_| ()), refused("RECORD"));
 }
 
 /// The names are those of the words that a text has for the kinds.
