@@ -136,7 +136,7 @@ fn a_name_says_what_is_refused() {
 fn a_name_says_why_a_book_is_refused() {
     let refused = |name: &str| Err(number(&format!("REFUSED_{name}")) as u8);
     assert_eq!(core::history(&[0; 7], 0).map(|_| ()), refused("BOOK"));
-    let mut book = books::write(&vec![vec![Event::of(1, 0, 1)]]).unwrap();
+    let mut book = books::write(&[vec![Event::of(1, 0, 1)]]).unwrap();
     let mut numbers = [0; 0];
     let too_short = core::history_into(&book, 0, &mut numbers, &mut [0]);
     assert_eq!(too_short, refused("TOO_SHORT"));
