@@ -9,6 +9,14 @@ use tools::event::Event;
 /// None, one word too few, one too many.
 const LENGTHS: [usize; 3] = [0, WORDS - 1, WORDS + 1];
 
+/// What the library says of the length of an account, where that is not its length.
+pub fn said() -> Vec<String> {
+    let words = lent::words();
+    let differs = words != WORDS as u64;
+    let shown = differs.then(|| format!("  {words} words, not {WORDS}"));
+    shown.into_iter().collect()
+}
+
 /// What memory was left as, and what it answered, as far as numbers go: all of them are 0, but for the service.
 #[derive(Clone, Debug, PartialEq)]
 struct Outcome {
