@@ -3,16 +3,27 @@
  * an account that the caller keeps and posts to, one event at a time; and book
  * files made of account lists, and read back.
  *
- * The functions are those of the proved core in libhollupaq.a. They keep no
- * state and no pointer and allocate nothing: a book lies in the caller's
- * memory, and so does an account. A book may be any bytes; one that is not in
- * order is refused by a number. The functions may run in several threads at
- * once, as long as no two of them write to the same memory, and none writes to
- * a book or an account that another reads.
+ * The functions are those of the proved core in libhollupaq.a. Only pointers
+ * with lengths, and numbers, cross the boundary. The functions keep no state
+ * and no pointer and allocate nothing: a book lies in the caller's memory, and
+ * so does an account. A book may be any bytes, and an account any words: what
+ * is not in order is refused by a number.
  *
- * What a call reads and its memory for output must not overlap, nor two pieces
- * of memory for output. No pointer may be null, not even where its length is 0:
- * pass a valid one then too.
+ * What is needed of the caller:
+ *
+ *   pointers   Each is aligned for its type, and valid for its length. None may
+ *              be null, not even where its length is 0.
+ *   lengths    They count elements: bytes of a book, words of an account. A
+ *              length that does not fit is refused: of an account then nothing
+ *              is read or written, of all other memory nothing is written.
+ *   overlap    What a call reads and what it writes must not overlap, nor two
+ *              pieces of memory that it writes.
+ *   threads    Calls may run in several threads at once, as long as no memory
+ *              that one of them writes is read or written by another: two may
+ *              not post to the same account at once, nor may one ask it
+ *              something while another posts to it.
+ *   stack      HOLLUPAQ_STACK bytes are enough below the caller's frame. A
+ *              signal handler that runs on the same stack needs its own.
  */
 #ifndef HOLLUPAQ_H
 #define HOLLUPAQ_H
@@ -23,6 +34,79 @@
 #ifdef __cplusplus
 extern "C" {
 #endif
+
+/*
+ * The version of this header, major * 10000 + minor * 100 + patch: 1.0.0. The
+ * library's own is told by hollupaq_version; where they differ, the header is
+ * not of this library.
+ */
+#define HOLLUPAQ_VERSION 10000
+
+uint64_t hollupaq_version(void);
+
+/* Bytes of stack that are enough for any call. */
+#define HOLLUPAQ_STACK 16384
+
+/* An answer from here on is an acceptance; one below it a refusal. */
+#define HOLLUPAQ_ACCEPTED 256
+
+/*
+ * The numbers of the refusals. The rules are asked in the order of their
+ * numbers, and the first that refuses an event gives the answer. Where a
+ * function says that it returns 0 when it is done, 0 is no refusal.
+ */
+enum {
+    HOLLUPAQ_REFUSED_NO_ACCOUNT = 0,    /* the memory is no account */
+    HOLLUPAQ_REFUSED_LATE_DAY = 1,      /* day after the last one, 73048 */
+    HOLLUPAQ_REFUSED_EARLY_DAY = 2,     /* day before the last accepted event */
+    HOLLUPAQ_REFUSED_FIELD = 3,         /* kind unknown or field out of range */
+    HOLLUPAQ_REFUSED_CLOSED = 4,        /* the account is closed */
+    HOLLUPAQ_REFUSED_SERVICE = 5,       /* service does not allow it */
+    HOLLUPAQ_REFUSED_RECEIPT = 6,       /* no such payment can be returned */
+    HOLLUPAQ_REFUSED_SUM = 7,           /* the sum does not fit */
+    HOLLUPAQ_REFUSED_NOT_EARNED = 8,    /* the deposit is not earned */
+    HOLLUPAQ_REFUSED_ARRANGEMENT = 9,   /* no arrears, or one is in force */
+    HOLLUPAQ_REFUSED_LOW_ARREARS = 10,  /* arrears are under 50.00 dollars */
+    HOLLUPAQ_REFUSED_NOTICE_LIVE = 11,  /* a final notice is live already */
+    HOLLUPAQ_REFUSED_NO_NOTICE = 12,    /* no live notice, 5 to 20 days old */
+    HOLLUPAQ_REFUSED_NO_CALL = 13,      /* no call on the three days before */
+    HOLLUPAQ_REFUSED_IN_FORCE = 14,     /* a payment arrangement is in force */
+    HOLLUPAQ_REFUSED_CERTIFICATE = 15,  /* certificate live and not covered */
+    HOLLUPAQ_REFUSED_ARREARS = 16,      /* arrears and no arrangement */
+    HOLLUPAQ_REFUSED_LOW_DEPOSIT = 17,  /* less deposit held than required */
+    HOLLUPAQ_REFUSED_OPEN_CHARGES = 18, /* 64 charges are open */
+    HOLLUPAQ_REFUSED_TOTAL = 19,        /* charges or payments pass the limit */
+    HOLLUPAQ_REFUSED_BOOK = 20,         /* length, header or table is wrong */
+    HOLLUPAQ_REFUSED_RECORD = 21,       /* unknown kind or spare bytes not 0 */
+    HOLLUPAQ_REFUSED_TOO_SHORT = 22     /* the memory lent is too short */
+};
+
+/* Service. A closed account is neither on nor off. */
+enum {
+    HOLLUPAQ_ON = 0,
+    HOLLUPAQ_OFF = 1,
+    HOLLUPAQ_CLOSED = 2
+};
+
+/* The kinds of events. A field of which a kind says nothing has to be 0. */
+enum {
+    HOLLUPAQ_BILL = 1,          /* amount in cents */
+    HOLLUPAQ_PAYMENT = 2,       /* amount in cents */
+    HOLLUPAQ_RETURNED = 3,      /* amount: the receipt of the payment */
+    HOLLUPAQ_FEE = 4,           /* option: the number of the fee, 1 to 3 */
+    HOLLUPAQ_DEPOSIT_ASKED = 5, /* amount in cents */
+    HOLLUPAQ_DEPOSIT_PAID = 6,  /* amount in cents */
+    HOLLUPAQ_DEPOSIT_MOVED = 7,
+    HOLLUPAQ_PAYOUT = 8,        /* amount in cents */
+    HOLLUPAQ_CERTIFICATE = 9,   /* amount: its days, 1 to 180 */
+    HOLLUPAQ_APPROVAL = 10,     /* amount: its days, 1 to 30 */
+    HOLLUPAQ_ARRANGEMENT = 11,  /* option: its parts, 2 to 6 */
+    HOLLUPAQ_NOTICE = 12,
+    HOLLUPAQ_CALL = 13,
+    HOLLUPAQ_CUT = 14,
+    HOLLUPAQ_RECONNECTION = 15, /* option: 0 in hours, 1 after hours */
+    HOLLUPAQ_CLOSE = 16
+};
 
 /* The most accounts that a book can have. */
 #define HOLLUPAQ_MOST_ACCOUNTS 1024
@@ -60,16 +144,14 @@ uint64_t hollupaq_report(const uint8_t *book, size_t book_len,
  *                          negative where there is credit
  *
  * Returns 0 when this is done; what lies behind the account's events is left
- * as it was. Returns 20 or 21 where the book is refused, and 22 where
+ * as it was. Returns HOLLUPAQ_REFUSED_BOOK (20) or HOLLUPAQ_REFUSED_RECORD (21)
+ * where the book is refused, and HOLLUPAQ_REFUSED_TOO_SHORT (22) where
  * `numbers` or `owed` has fewer places than the account has events; then
  * nothing is written.
  */
 uint8_t hollupaq_history(const uint8_t *book, size_t book_len, size_t account,
                          uint8_t *numbers, size_t numbers_len,
                          int64_t *owed, size_t owed_len);
-
-/* An answer from here on is an acceptance; one below it a refusal. */
-#define HOLLUPAQ_ACCEPTED 256
 
 /*
  * The test of a book: how many accounts it has, and how many records they have
@@ -124,7 +206,13 @@ uint64_t hollupaq_book_write(const uint32_t *counts, size_t counts_len,
                              uint8_t *out, size_t out_len);
 
 /* How many words of 64 bits an account takes. */
-#define HOLLUPAQ_WORDS 187
+#define HOLLUPAQ_WORDS 188
+
+/*
+ * The first word of every account: a million and the number of the layout. It
+ * is above every day, with which accounts began before they had this word.
+ */
+#define HOLLUPAQ_LAYOUT 1000001
 
 /*
  * An account is HOLLUPAQ_WORDS words in the caller's memory,
@@ -134,37 +222,21 @@ uint64_t hollupaq_book_write(const uint32_t *counts, size_t counts_len,
  * lent to each call as a pointer and a length in words. Only hollupaq_fresh
  * makes one, and only hollupaq_post and hollupaq_post_at change it: what the
  * words hold is the library's own business, and nobody else writes into them.
+ * Every word is set, and by the accepted events alone: accounts to which the
+ * same events were posted are equal words.
+ *
  * Any words may be lent, and every call but hollupaq_fresh tests them first.
- * Memory of another length, or whose words fail the test, is no account, and
- * is left alone. Not all words that the library did not leave so fail it; what
- * is said of such words means nothing, but does no harm. There is no pointer
- * in an account, so that it may be copied as plain memory: with memcpy, or
- * into a file from which the same version of the library reads it back. Every
- * word of it is set, and by the accepted events alone: accounts to which the
- * same events were posted are equal words. Two threads may not post to the
- * same account at once, nor may one ask it something while another posts to
- * it.
+ * Memory of another length or another layout, or whose words fail the test, is
+ * no account, and is left alone. Not all words that the library did not leave
+ * so fail it; what is said of such words means nothing, but does no harm.
+ *
+ * There is no pointer in an account, so that it may be copied as plain memory:
+ * with memcpy, or into a file from which a library of the same HOLLUPAQ_LAYOUT
+ * reads it back, on a machine of the same byte order. The book is the record:
+ * accounts that were kept by another layout are refused and not misread, and
+ * are rebuilt by posting the book's events again. hollupaq_book_read gives
+ * them, and the same events make the same account.
  */
-
-/* The kinds of events. A field of which a kind says nothing has to be 0. */
-enum {
-    HOLLUPAQ_BILL = 1,          /* amount in cents */
-    HOLLUPAQ_PAYMENT = 2,       /* amount in cents */
-    HOLLUPAQ_RETURNED = 3,      /* amount: the receipt of the payment */
-    HOLLUPAQ_FEE = 4,           /* option: the number of the fee, 1 to 3 */
-    HOLLUPAQ_DEPOSIT_ASKED = 5, /* amount in cents */
-    HOLLUPAQ_DEPOSIT_PAID = 6,  /* amount in cents */
-    HOLLUPAQ_DEPOSIT_MOVED = 7,
-    HOLLUPAQ_PAYOUT = 8,        /* amount in cents */
-    HOLLUPAQ_CERTIFICATE = 9,   /* amount: its days, 1 to 180 */
-    HOLLUPAQ_APPROVAL = 10,     /* amount: its days, 1 to 30 */
-    HOLLUPAQ_ARRANGEMENT = 11,  /* option: its parts, 2 to 6 */
-    HOLLUPAQ_NOTICE = 12,
-    HOLLUPAQ_CALL = 13,
-    HOLLUPAQ_CUT = 14,
-    HOLLUPAQ_RECONNECTION = 15, /* option: 0 in hours, 1 after hours */
-    HOLLUPAQ_CLOSE = 16
-};
 
 /*
  * How many words an account of the library takes. Where this is not
@@ -180,12 +252,19 @@ uint64_t hollupaq_words(void);
 uint8_t hollupaq_fresh(uint64_t *account, size_t words);
 
 /*
+ * Whether memory is an account, 1 or 0: its length is HOLLUPAQ_WORDS, its first
+ * word HOLLUPAQ_LAYOUT, and its words pass the account's test.
+ */
+uint8_t hollupaq_ok(const uint64_t *account, size_t words);
+
+/*
  * Posts one event, of any kind and any numbers. Day 0 is 1 January 2000.
  *
  * Returns HOLLUPAQ_ACCEPTED and the receipt of a payment (1, 2, ..) added to
  * it, or HOLLUPAQ_ACCEPTED alone for any other event. Returns a number below
- * it where the event is refused: that (1 to 19) of the rule that refuses it,
- * or 0 where the memory is no account. Then nothing is written.
+ * it where the event is refused: that (1 to 19) of the rule that refuses it, or
+ * HOLLUPAQ_REFUSED_NO_ACCOUNT (0) where the memory is no account. Then nothing
+ * is written.
  */
 uint64_t hollupaq_post(uint64_t *account, size_t words,
                        uint8_t kind, uint8_t option, uint32_t day,
@@ -199,6 +278,15 @@ uint64_t hollupaq_post(uint64_t *account, size_t words,
 uint64_t hollupaq_post_at(uint64_t *accounts, size_t words, size_t i,
                           uint8_t kind, uint8_t option, uint32_t day,
                           uint64_t amount);
+
+/*
+ * What hollupaq_post would answer to the event, with the account left alone: 0
+ * where the memory is no account. A disconnection is lawful on a day exactly
+ * where HOLLUPAQ_CUT would be accepted.
+ */
+uint64_t hollupaq_would_answer(const uint64_t *account, size_t words,
+                               uint8_t kind, uint8_t option, uint32_t day,
+                               uint64_t amount);
 
 /* Whether an answer is an acceptance, 1 or 0. */
 static inline int hollupaq_accepted(uint64_t answer)
@@ -222,7 +310,10 @@ int64_t hollupaq_owed(const uint64_t *account, size_t words);
 uint64_t hollupaq_held(const uint64_t *account, size_t words);
 uint64_t hollupaq_required(const uint64_t *account, size_t words);
 
-/* Service: 0 on, 1 off, 2 closed; 2 too where the memory is no account. */
+/*
+ * Service: HOLLUPAQ_ON (0), HOLLUPAQ_OFF (1) or HOLLUPAQ_CLOSED (2); closed too
+ * where the memory is no account.
+ */
 uint32_t hollupaq_service(const uint64_t *account, size_t words);
 
 /*
@@ -241,10 +332,9 @@ uint64_t hollupaq_open_unpaid(const uint64_t *account, size_t words, size_t i);
  *
  * Returns HOLLUPAQ_ACCEPTED and the cents added to it, or HOLLUPAQ_ACCEPTED
  * and 1 for yes, HOLLUPAQ_ACCEPTED alone for no. Returns a number below it
- * where the day is refused, as that of an event is: 1 where it is after the
- * last day (73048), 2 where it is before the last accepted event, and 0 where
- * the memory is no account. hollupaq_accepted and hollupaq_told take such an
- * answer apart.
+ * where the day is refused, as that of an event is: HOLLUPAQ_REFUSED_LATE_DAY
+ * (1) or HOLLUPAQ_REFUSED_EARLY_DAY (2); and 0 where the memory is no account.
+ * hollupaq_accepted and hollupaq_told take such an answer apart.
  */
 uint64_t hollupaq_arrears(const uint64_t *account, size_t words, uint32_t day);
 uint64_t hollupaq_in_force(const uint64_t *account, size_t words, uint32_t day);

@@ -6,14 +6,7 @@
  *      examples/link/post.c target/staticlib/libhollupaq.a
  *   target/post-c
  *
- * It prints
- *
- *   day 100, kind 1: accepted; owed 10000
- *   day 130, kind 1: accepted; owed 15075
- *   day 131, kind 2: accepted, receipt 1; owed 11075
- *   day 131, kind 14: refused 12; owed 11075
- *   open: 6000 of day 100
- *   open: 5075 of day 130
+ * It prints what is in examples/link/post.printed.
  */
 #include "hollupaq.h"
 
@@ -52,19 +45,50 @@ static void post(struct event event)
     printf("; owed %" PRId64 "\n", hollupaq_owed(account, HOLLUPAQ_WORDS));
 }
 
+/* Before anybody is sent out: would a disconnection be accepted? */
+static void ask_for_cut(uint32_t day)
+{
+    uint64_t answer = hollupaq_would_answer(account, HOLLUPAQ_WORDS,
+                                            HOLLUPAQ_CUT, 0, day, 0);
+
+    printf("day %" PRIu32 ": a cut would be ", day);
+    if (hollupaq_accepted(answer))
+        printf("accepted\n");
+    else
+        printf("refused %" PRIu64 "\n", answer);
+}
+
+static const char *service(void)
+{
+    switch (hollupaq_service(account, HOLLUPAQ_WORDS)) {
+    case HOLLUPAQ_ON:
+        return "on";
+    case HOLLUPAQ_OFF:
+        return "off";
+    default:
+        return "closed";
+    }
+}
+
 int main(void)
 {
     size_t i;
 
-    if (!hollupaq_fresh(account, HOLLUPAQ_WORDS)) {
-        fprintf(stderr, "post-c: hollupaq.h is not of this library\n");
+    if (hollupaq_version() != HOLLUPAQ_VERSION) {
+        fprintf(stderr, "post-c: hollupaq.h is version %d, the library %" PRIu64
+                "\n", HOLLUPAQ_VERSION, hollupaq_version());
         return 1;
     }
-    for (i = 0; i < sizeof events / sizeof events[0]; i++)
+    hollupaq_fresh(account, HOLLUPAQ_WORDS);
+    for (i = 0; i < sizeof events / sizeof events[0]; i++) {
+        if (events[i].kind == HOLLUPAQ_CUT)
+            ask_for_cut(events[i].day);
         post(events[i]);
+    }
     for (i = 0; i < hollupaq_open_count(account, HOLLUPAQ_WORDS); i++)
         printf("open: %" PRIu64 " of day %" PRIu64 "\n",
                hollupaq_open_unpaid(account, HOLLUPAQ_WORDS, i),
                hollupaq_open_day(account, HOLLUPAQ_WORDS, i));
+    printf("service: %s\n", service());
     return fflush(stdout) == 0 ? 0 : 1;
 }

@@ -15,6 +15,7 @@
  * may WRITE too; or NOTHING, where the function has none.
  */
 #define CALLS(CALL) \
+    CALL(1, uint64_t, hollupaq_version, (NOTHING, , )) \
     CALL(2, uint64_t, hollupaq_report, (READ, uint8_t, book), (WRITE, uint8_t, out)) \
     CALL(4, uint8_t, hollupaq_history, (READ, uint8_t, book), (NUMBER, size_t, account), \
          (WRITE, uint8_t, numbers), (WRITE, int64_t, owed)) \
@@ -28,11 +29,14 @@
          (WRITE, uint8_t, out)) \
     CALL(1, uint64_t, hollupaq_words, (NOTHING, , )) \
     CALL(1, uint8_t, hollupaq_fresh, (WRITE, uint64_t, account)) \
+    CALL(1, uint8_t, hollupaq_ok, (READ, uint64_t, account)) \
     CALL(5, uint64_t, hollupaq_post, (WRITE, uint64_t, account), (NUMBER, uint8_t, kind), \
          (NUMBER, uint8_t, option), (NUMBER, uint32_t, day), (NUMBER, uint64_t, amount)) \
     CALL(6, uint64_t, hollupaq_post_at, (WRITE, uint64_t, accounts), (NUMBER, size_t, i), \
          (NUMBER, uint8_t, kind), (NUMBER, uint8_t, option), (NUMBER, uint32_t, day), \
          (NUMBER, uint64_t, amount)) \
+    CALL(5, uint64_t, hollupaq_would_answer, (READ, uint64_t, account), (NUMBER, uint8_t, kind), \
+         (NUMBER, uint8_t, option), (NUMBER, uint32_t, day), (NUMBER, uint64_t, amount)) \
     CALL(1, int64_t, hollupaq_owed, (READ, uint64_t, account)) \
     CALL(1, uint64_t, hollupaq_held, (READ, uint64_t, account)) \
     CALL(1, uint64_t, hollupaq_required, (READ, uint64_t, account)) \

@@ -23,6 +23,7 @@ const SHARE: u64 = 16;
 #[derive(Default)]
 pub struct Accounts {
     answers: Group,
+    would: Group,
     at_the_end: Group,
     after_each: Group,
     days_at_the_end: Group,
@@ -73,6 +74,7 @@ impl Accounts {
         let kept = keep(&history.events, asked);
         let compare = |check: Check| against::compare(history, &kept, check);
         self.answers.try_one(|| compare(against::answers));
+        self.would.try_one(|| compare(against::would));
         told.try_one(|| compare(against::told));
         days.try_one(|| compare(against::days));
         kept.days.iter().for_each(|told| self.reached.note(told));
@@ -98,6 +100,10 @@ impl Accounts {
             (
                 &self.answers,
                 "each answer with its number or receipt and what is owed after it",
+            ),
+            (
+                &self.would,
+                "what would be answered to each event, with nothing changed",
             ),
             (
                 &self.at_the_end,
@@ -127,7 +133,7 @@ impl Accounts {
             group.tell(tally, &format!("kept accounts, {words}"));
         }
         tally.check(
-            "kept accounts, as long as the library says",
+            "the library's version and the words of an account",
             &lengths::said(),
         );
         tally.reached(

@@ -7,6 +7,7 @@ pub use account::{Account, Accounts, Answer, OpenItem};
 
 extern "C" {
     // A slice of the core passes as its pointer and its length.
+    fn hollupaq_version() -> u64;
     fn hollupaq_report(book: *const u8, book_len: usize, out: *mut u8, out_len: usize) -> u64;
     fn hollupaq_history(
         book: *const u8,
@@ -19,6 +20,9 @@ extern "C" {
     ) -> u8;
 }
 
+/// The version that these declarations are of, as include/hollupaq.h has it.
+pub const VERSION: u64 = 10_000;
+
 /// The longest header line of a report, and the longest line of an account.
 const REPORT_HEADER: usize = 39;
 const REPORT_LINE: usize = 113;
@@ -30,6 +34,12 @@ pub struct Reply {
     pub number: u8,
     /// In cents, negative where there is credit.
     pub owed: i64,
+}
+
+/// The version of the library: [`VERSION`] where both belong together.
+pub fn version() -> u64 {
+    // SAFETY: it takes nothing.
+    unsafe { hollupaq_version() }
 }
 
 /// Writes the standing of a book's accounts into `out` and says how many bytes that took. Where `out` is too short for

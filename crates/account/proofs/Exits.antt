@@ -1,5 +1,5 @@
 -- What the proofs of posting cite: what the test tells, what an event that passes has room for, and the exits.
-use Prim.Native.Nat.{ℕ}
+use Prim.Native.Nat.{ℕ, min}
 use mathlib.Core.Path.{_≡_, sym, ap, _∙_}
 use mathlib.Core.Bool.{Bool, true, false, cond, not, _&&_}
 use mathlib.Core.List.{List, [], _∷_}
@@ -7,14 +7,15 @@ use native.Mathlib.Omega.{arith}
 use lib.Dec.{ltb, eqb}
 use lib.ListN.{length}
 use borrow.Author.Tests.{ltb-false, eqb-true, eq-eqb, ne-eqb}
-use Rattle.basics.proofs.Cases.{on, links, and-left, and-right}
+use Rattle.basics.specs.Machine.{largest}
+use Rattle.basics.proofs.Cases.{on, on-eq, links, and-left, and-right}
 use Rattle.rules.specs.declared.Event.{Event}
 use Rattle.rules.specs.declared.View.{View}
 use Rattle.rules.specs.declared.Answer.{Answer}
 use Rattle.rules.specs.declared.Answer.the-variants.{Accepted, Refused}
 use Rattle.rules.specs.History.{finalDay}
 use Rattle.rules.specs.Range.{inRange, WellFormed}
-use Rattle.rules.specs.Table.{refusalBy}
+use Rattle.rules.specs.Table.{chargeOf, refusalBy}
 use Rattle.rules.specs.Accepted.{dayRows}
 use Rattle.table.specs.Seen.{looksAtDebt, seenOf}
 use Rattle.table.proofs.Seen.{refusal-seen}
@@ -30,7 +31,7 @@ use Rattle.ledger.specs.Ledger.{ledgerOk}
 use Rattle.ledger.proofs.Test.{ledger-fit}
 use Rattle.account.specs.State.{State, accountSize, stateOn, wordsOf, serviceOk, fileOk, moneyOk, stateOk, passes, StateFit, Fit, view, applied}
 use Rattle.account.specs.Post.{refusalAt, receiptAt, answerAt, stateAfter, answerTo, wordsAfter, Leaves, Judges}
-use Rattle.account.specs.Looks.{debtsFor, moneyFor, viewFrom}
+use Rattle.account.specs.Looks.{debtsFor, moneyFor, viewFrom, Asked}
 use Rattle.account.proofs.Words.{account-whole}
 
 -- ---- the test goes part by part
@@ -114,30 +115,72 @@ module _ (s : State) (e : Event) where
   pub refusal-rest : (v : View) → first ≡ 0 → v ≡ seenOf (view s e) e → refusalBy v e ≡ refusalAt s e
   refusal-rest v h l = ap (λ x. refusalBy x e) l ∙ (refusal-seen (view s e) e ∙ refusal-view h)
 
+-- ---- the rows asked together: the first that refuses, and what is known where none does
+pub asked : (m : List ℕ) (e : Event) → Fit m → (last first : ℕ) (v : View) (charge rest n : ℕ)
+    → last ≡ stateOn m .last → first ≡ dayRows last (e .day) (cond (not (inRange e)) 3 0)
+    → v ≡ seenOf (view (stateOn m) e) e → charge ≡ min (chargeOf v e) largest → rest ≡ refusalBy v e → n ≡ cond (eqb first 0) rest first
+    → Asked m e (record { number = n; view = v; charge = charge })
+asked m e f last first v charge rest n d p w h q r =
+    let s = stateOn m in
+    let first-is = p ∙ ap (λ x. dayRows x (e .day) (cond (not (inRange e)) 3 0)) d in
+    on-eq first 0
+    (λ y z.
+    let u : n ≡ rest = rw y at r in
+    let none = sym first-is ∙ z in
+    record {
+      number-is = u ∙ (q ∙ refusal-rest s e v none w);
+      passing = λ x. record { fit = f; well = well-formed (s .last) e none; looked = w; free = sym q ∙ (sym u ∙ x); charged = h };
+    })
+    (λ y z.
+    let u : n ≡ first = rw y at r in
+    record {
+      number-is = u ∙ (first-is ∙ sym (refusal-first s e (λ x. z (first-is ∙ x))));
+      passing = λ x. absurd (z (sym u ∙ x));
+    })
+
+-- ---- the answer
+module _ (s : State) (e : Event) where
+  pub answer-refused : (n : ℕ) → n ≡ refusalAt s e → (n ≡ 0 → ⊥) → Refused n ≡ answerAt s e
+  unfolding answerAt
+  answer-refused n p z = let q : eqb (refusalAt s e) 0 ≡ false = ne-eqb (refusalAt s e) 0 (λ y. z (p ∙ y)) in rw (q, p)
+
+  pub answer-accepted : (r : ℕ) → refusalAt s e ≡ 0 → r ≡ receiptAt s e → Accepted r ≡ answerAt s e
+  unfolding answerAt
+  answer-accepted r z p = let y : eqb (refusalAt s e) 0 ≡ true = eq-eqb (refusalAt s e) 0 z in rw (y, p)
+
 -- ---- the exits of a judging
 pub judges-refused : (m : List ℕ) (e : Event) (n : ℕ) → n ≡ refusalAt (stateOn m) e → (n ≡ 0 → ⊥) → Judges m e (Refused n) m
-unfolding answerAt stateAfter
+unfolding stateAfter
 judges-refused m e n p z =
     let q : eqb (refusalAt (stateOn m) e) 0 ≡ false = ne-eqb (refusalAt (stateOn m) e) 0 (λ y. z (p ∙ y)) in
-    record { answer-is = rw (q, p); state-is = rw q }
+    record { answer-is = answer-refused (stateOn m) e n p z; state-is = rw q }
 
 pub judges-accepted : (m : List ℕ) (e : Event) (r : ℕ) (k : List ℕ)
     → refusalAt (stateOn m) e ≡ 0 → r ≡ receiptAt (stateOn m) e
     → stateOn k ≡ applied (stateOn m) e (view (stateOn m) e) → Judges m e (Accepted r) k
-unfolding answerAt stateAfter
+unfolding stateAfter
 judges-accepted m e r k z p q =
     let y : eqb (refusalAt (stateOn m) e) 0 ≡ true = eq-eqb (refusalAt (stateOn m) e) 0 z in
-    record { answer-is = rw (y, p); state-is = q ∙ rw y }
+    record { answer-is = answer-accepted (stateOn m) e r z p; state-is = q ∙ rw y }
+
+-- ---- the answer in any memory
+pub answers-passed : (m : List ℕ) (e : Event) → passes m ≡ true → answerAt (stateOn m) e ≡ answerTo m e
+unfolding answerTo
+answers-passed m e q = rw q
+
+pub answers-failed : (m : List ℕ) (e : Event) → passes m ≡ false → Refused 0 ≡ answerTo m e
+unfolding answerTo
+answers-failed m e q = rw q
 
 -- ---- the exits of a posting in any memory
 pub leaves-judged : (m : List ℕ) (e : Event) (r : Answer) (k : List ℕ) → passes m ≡ true → length k ≡ length m → Judges m e r k → Leaves m e r k
-unfolding answerTo wordsAfter
+unfolding wordsAfter
 leaves-judged m e r k q l j =
     record {
-      answer-is = j .answer-is ∙ rw q;
+      answer-is = j .answer-is ∙ answers-passed m e q;
       words-are = sym (account-whole k (l ∙ passed-size m q)) ∙ (ap wordsOf (j .state-is) ∙ rw q);
     }
 
 pub leaves-failed : (m : List ℕ) (e : Event) → passes m ≡ false → Leaves m e (Refused 0) m
-unfolding answerTo wordsAfter
-leaves-failed m e q = record { answer-is = rw q; words-are = rw q }
+unfolding wordsAfter
+leaves-failed m e q = record { answer-is = answers-failed m e q; words-are = rw q }

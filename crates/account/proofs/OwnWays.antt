@@ -116,6 +116,7 @@ file-other : (s : State) (e : Event) → concerns e ≡ false → (is certificat
 file-other s e d m =
     λ i.
     record {
+      layout = s .layout;
       last = s .last;
       collection = s .collection;
       deposit = deposit-other (s .deposit) e d i;
@@ -143,16 +144,16 @@ quiet-same c e n l z =
     ∙ sym (collection-other c e n (omega (arith, l)))
 
 module _ (m : List ℕ) (l : length m ≡ accountSize) (e : Event) (k : e .kind < depositAsked) (ys : List ℕ) (q : ys ≡ e .day ∷ []) where
-  collection-still : part sizes 1 (back sizes 0 ys m) ≡ part sizes 1 m
-  collection-still = ap (λ cs. getD cs 1 []) (then sizes 0 ys (omega arith) (ap length q) (here sizes m l) .cuts)
+  collection-still : part sizes 2 (back sizes 1 ys m) ≡ part sizes 2 m
+  collection-still = ap (λ cs. getD cs 2 []) (then sizes 1 ys (omega arith) (ap length q) (here sizes m l) .cuts)
 
-  ledger-still : part sizes 6 (back sizes 0 ys m) ≡ part sizes 6 m
-  ledger-still = ap (λ cs. getD cs 6 []) (then sizes 0 ys (omega arith) (ap length q) (here sizes m l) .cuts)
+  ledger-still : part sizes 7 (back sizes 1 ys m) ≡ part sizes 7 m
+  ledger-still = ap (λ cs. getD cs 7 []) (then sizes 1 ys (omega arith) (ap length q) (here sizes m l) .cuts)
 
   -- a notice that lives no more stays so
-  pub quiet-by : eqb (collectionOn (part sizes 1 (back sizes 0 ys m)) .notice .live) 0 ≡ true → Became (back sizes 0 ys m) (serviceAfter (stateOn m) e)
+  pub quiet-by : eqb (collectionOn (part sizes 2 (back sizes 1 ys m)) .notice .live) 0 ≡ true → Became (back sizes 1 ys m) (serviceAfter (stateOn m) e)
   quiet-by n =
-      let t = then sizes 0 ys (omega arith) (ap length q) (here sizes m l) in
+      let t = then sizes 1 ys (omega arith) (ap length q) (here sizes m l) in
       let none : stateOn m .collection .notice .live ≡ 0 = eqb-true _ 0 (sym (ap (λ w. eqb (collectionOn w .notice .live) 0) collection-still) ∙ n) in
       record {
         words-are = t .words-are;
@@ -160,6 +161,7 @@ module _ (m : List ℕ) (l : length m ≡ accountSize) (e : Event) (k : e .kind 
             ap stateOf (t .cuts)
             ∙ (λ i.
             record {
+              layout = stateOn m .layout;
               last = getD (q i) 0 0;
               collection = quiet-same (stateOn m .collection) e (arrearsBy (stateOn m .ledger) (e .day)) k none i;
               deposit = stateOn m .deposit;
@@ -171,11 +173,11 @@ module _ (m : List ℕ) (l : length m ≡ accountSize) (e : Event) (k : e .kind 
       }
 
   pub lapse-by : (ws : List ℕ) (due : ℕ) → length ws ≡ collectionSize
-      → due ≡ arrearsBy (ledgerOn (part sizes 6 (back sizes 0 ys m))) (e .day)
-      → collectionOn ws ≡ lapsedBy (collectionOn (part sizes 1 (back sizes 0 ys m))) due
-      → Became (back sizes 1 ws (back sizes 0 ys m)) (serviceAfter (stateOn m) e)
+      → due ≡ arrearsBy (ledgerOn (part sizes 7 (back sizes 1 ys m))) (e .day)
+      → collectionOn ws ≡ lapsedBy (collectionOn (part sizes 2 (back sizes 1 ys m))) due
+      → Became (back sizes 2 ws (back sizes 1 ys m)) (serviceAfter (stateOn m) e)
   lapse-by ws due a d p =
-      let t = then sizes 1 ws (omega arith) a (then sizes 0 ys (omega arith) (ap length q) (here sizes m l)) in
+      let t = then sizes 2 ws (omega arith) a (then sizes 1 ys (omega arith) (ap length q) (here sizes m l)) in
       let d2 = d ∙ ap (λ w. arrearsBy (ledgerOn w) (e .day)) ledger-still in
       let p2 =
       p
@@ -188,6 +190,7 @@ module _ (m : List ℕ) (l : length m ≡ accountSize) (e : Event) (k : e .kind 
             ap stateOf (t .cuts)
             ∙ (λ i.
             record {
+              layout = stateOn m .layout;
               last = getD (q i) 0 0;
               collection = p2 i;
               deposit = stateOn m .deposit;
@@ -206,12 +209,12 @@ payment-arranged a e owing back z = rw z refl
 pub payment-by : (m : List ℕ) (l : length m ≡ accountSize) (e : Event) → e .kind ≡ payment
     → (ws : List ℕ) (a : length ws ≡ ledgerSize) (ys : List ℕ) (b : length ys ≡ receiptsSize) (zs : List ℕ) → length zs ≡ arrangementSize
     → ledgerOn ws ≡ ledgerAfter (stateOn m .ledger) e false 0 (e .amount)
-    → receiptsOn ys ≡ receiptsAfter (receiptsOn (part sizes 5 (back sizes 6 ws m))) e
-    → arrangementOn zs ≡ arrangementAfter (arrangementOn (part sizes 4 (back sizes 5 ys (back sizes 6 ws m)))) e 0 0
-    → Became (back sizes 4 zs (back sizes 5 ys (back sizes 6 ws m))) (moneyAfter (stateOn m) e (view (stateOn m) e))
+    → receiptsOn ys ≡ receiptsAfter (receiptsOn (part sizes 6 (back sizes 7 ws m))) e
+    → arrangementOn zs ≡ arrangementAfter (arrangementOn (part sizes 5 (back sizes 6 ys (back sizes 7 ws m)))) e 0 0
+    → Became (back sizes 5 zs (back sizes 6 ys (back sizes 7 ws m))) (moneyAfter (stateOn m) e (view (stateOn m) e))
 payment-by m l e z ws a ys b zs c p q r =
     let v = view (stateOn m) e in
-    money-by m l e ws a ys b zs v c (p ∙ simp (z, add-zero)) q (r ∙ payment-arranged (arrangementOn (part sizes 4 (back sizes 5 ys (back sizes 6 ws m)))) e (v .arrears) (v .payment) z)
+    money-by m l e ws a ys b zs v c (p ∙ simp (z, add-zero)) q (r ∙ payment-arranged (arrangementOn (part sizes 5 (back sizes 6 ys (back sizes 7 ws m)))) e (v .arrears) (v .payment) z)
 
 -- what a payment asks of the ledger
 pub payment-ledger : (m : List ℕ) (e : Event) → Free m e → e .kind ≡ payment → LedgerRoom (stateOn m .ledger) e false 0 (e .amount)
@@ -270,15 +273,16 @@ module _ (m : List ℕ) (e : Event) (f : Free m e) (o : onlyItem e ≡ true) (n 
   item-same : ledgerAfter (stateOn m .ledger) e true n 0 ≡ ledgerAfter (stateOn m .ledger) e (charges e) (chargeOf looked e) (creditOf looked e)
   item-same = λ i. ledgerAfter (stateOn m .ledger) e (sym (item-adds e (either e o)) i) (charge-fits m e f n w i) (sym (item-credits looked e (either e o)) i)
 
-  item-by : (ws : List ℕ) → length ws ≡ ledgerSize → ledgerOn ws ≡ ledgerAfter (stateOn m .ledger) e true n 0 → Became (back sizes 6 ws m) (moneyAfter (stateOn m) e looked)
+  item-by : (ws : List ℕ) → length ws ≡ ledgerSize → ledgerOn ws ≡ ledgerAfter (stateOn m .ledger) e true n 0 → Became (back sizes 7 ws m) (moneyAfter (stateOn m) e looked)
   item-by ws a p =
-      let t = then sizes 6 ws (omega arith) a (here sizes m (f .fit .words-are)) in
+      let t = then sizes 7 ws (omega arith) a (here sizes m (f .fit .words-are)) in
       record {
         words-are = t .words-are;
         state-is =
             ap stateOf (t .cuts)
             ∙ (λ i.
             record {
+              layout = stateOn m .layout;
               last = stateOn m .last;
               collection = stateOn m .collection;
               deposit = stateOn m .deposit;
@@ -290,11 +294,11 @@ module _ (m : List ℕ) (e : Event) (f : Free m e) (o : onlyItem e ≡ true) (n 
       }
 
   pub item-applied : (ws c : List ℕ) → length ws ≡ ledgerSize → ledgerOn ws ≡ ledgerAfter (stateOn m .ledger) e true n 0
-      → Became c (serviceAfter (stateOn (back sizes 6 ws m)) e)
+      → Became c (serviceAfter (stateOn (back sizes 7 ws m)) e)
       → Applied m e looked c 0
   item-applied ws c a p d =
       record {
-        became = way-is m (back sizes 6 ws m) c e looked (item-low e o) (item-by ws a p) d;
+        became = way-is m (back sizes 7 ws m) c e looked (item-low e o) (item-by ws a p) d;
         receipt-is = no-receipt (stateOn m) e (either e o);
       }
 

@@ -49,20 +49,20 @@ module _ (m : List ℕ) (e : Event) (v : View) (n : ℕ) (p : Passing m e v n) w
 module _ (m : List ℕ) (l : length m ≡ accountSize) (e : Event) where
   -- ledger, receipts and arrangement; a span that is lent later is as it was
   module _ (ws : List ℕ) (a : length ws ≡ ledgerSize) where
-    pub receipts-still : part sizes 5 (back sizes 6 ws m) ≡ part sizes 5 m
-    receipts-still = ap (λ cs. getD cs 5 []) (then sizes 6 ws (omega arith) a (here sizes m l) .cuts)
+    pub receipts-still : part sizes 6 (back sizes 7 ws m) ≡ part sizes 6 m
+    receipts-still = ap (λ cs. getD cs 6 []) (then sizes 7 ws (omega arith) a (here sizes m l) .cuts)
 
     module _ (ys : List ℕ) (b : length ys ≡ receiptsSize) where
-      pub arrangement-still : part sizes 4 (back sizes 5 ys (back sizes 6 ws m)) ≡ part sizes 4 m
-      arrangement-still = ap (λ cs. getD cs 4 []) (then sizes 5 ys (omega arith) b (then sizes 6 ws (omega arith) a (here sizes m l)) .cuts)
+      pub arrangement-still : part sizes 5 (back sizes 6 ys (back sizes 7 ws m)) ≡ part sizes 5 m
+      arrangement-still = ap (λ cs. getD cs 5 []) (then sizes 6 ys (omega arith) b (then sizes 7 ws (omega arith) a (here sizes m l)) .cuts)
 
       pub money-by : (zs : List ℕ) (v : View) → length zs ≡ arrangementSize
           → ledgerOn ws ≡ ledgerAfter (stateOn m .ledger) e (charges e) (chargeOf v e) (creditOf v e)
-          → receiptsOn ys ≡ receiptsAfter (receiptsOn (part sizes 5 (back sizes 6 ws m))) e
-          → arrangementOn zs ≡ arrangementAfter (arrangementOn (part sizes 4 (back sizes 5 ys (back sizes 6 ws m)))) e (v .arrears) (v .payment)
-          → Became (back sizes 4 zs (back sizes 5 ys (back sizes 6 ws m))) (moneyAfter (stateOn m) e v)
+          → receiptsOn ys ≡ receiptsAfter (receiptsOn (part sizes 6 (back sizes 7 ws m))) e
+          → arrangementOn zs ≡ arrangementAfter (arrangementOn (part sizes 5 (back sizes 6 ys (back sizes 7 ws m)))) e (v .arrears) (v .payment)
+          → Became (back sizes 5 zs (back sizes 6 ys (back sizes 7 ws m))) (moneyAfter (stateOn m) e v)
       money-by zs v c p q r =
-          let t = then sizes 4 zs (omega arith) c (then sizes 5 ys (omega arith) b (then sizes 6 ws (omega arith) a (here sizes m l))) in
+          let t = then sizes 5 zs (omega arith) c (then sizes 6 ys (omega arith) b (then sizes 7 ws (omega arith) a (here sizes m l))) in
           let q2 = q ∙ ap (λ w. receiptsAfter (receiptsOn w) e) receipts-still in
           let r2 = r ∙ ap (λ w. arrangementAfter (arrangementOn w) e (v .arrears) (v .payment)) arrangement-still in
           record {
@@ -71,6 +71,7 @@ module _ (m : List ℕ) (l : length m ≡ accountSize) (e : Event) where
                 ap stateOf (t .cuts)
                 ∙ (λ i.
                 record {
+                  layout = stateOn m .layout;
                   last = stateOn m .last;
                   collection = stateOn m .collection;
                   deposit = stateOn m .deposit;
@@ -84,18 +85,19 @@ module _ (m : List ℕ) (l : length m ≡ accountSize) (e : Event) where
   -- deposit and medical
   pub file-by : (ws ys : List ℕ) → length ws ≡ depositSize → length ys ≡ medicalSize
       → depositOn ws ≡ depositAfter (stateOn m .deposit) e
-      → medicalOn ys ≡ medicalAfter (medicalOn (part sizes 3 (back sizes 2 ws m))) e
-      → Became (back sizes 3 ys (back sizes 2 ws m)) (fileAfter (stateOn m) e)
+      → medicalOn ys ≡ medicalAfter (medicalOn (part sizes 4 (back sizes 3 ws m))) e
+      → Became (back sizes 4 ys (back sizes 3 ws m)) (fileAfter (stateOn m) e)
   file-by ws ys a b p q =
-      let s = then sizes 2 ws (omega arith) a (here sizes m l) in
-      let t = then sizes 3 ys (omega arith) b s in
-      let q2 = q ∙ ap (λ cs. medicalAfter (medicalOn (getD cs 3 [])) e) (s .cuts) in
+      let s = then sizes 3 ws (omega arith) a (here sizes m l) in
+      let t = then sizes 4 ys (omega arith) b s in
+      let q2 = q ∙ ap (λ cs. medicalAfter (medicalOn (getD cs 4 [])) e) (s .cuts) in
       record {
         words-are = t .words-are;
         state-is =
             ap stateOf (t .cuts)
             ∙ (λ i.
             record {
+              layout = stateOn m .layout;
               last = stateOn m .last;
               collection = stateOn m .collection;
               deposit = p i;
@@ -111,9 +113,9 @@ module _ (m : List ℕ) (l : length m ≡ accountSize) (e : Event) where
       → due ≡ cond (watched (stateOn m .collection) e) (arrearsBy (stateOn m .ledger) (e .day)) 0
       → collectionOn ws ≡ collectionAfter (stateOn m .collection) e due
       → ys ≡ e .day ∷ []
-      → Became (back sizes 0 ys (back sizes 1 ws m)) (serviceAfter (stateOn m) e)
+      → Became (back sizes 1 ys (back sizes 2 ws m)) (serviceAfter (stateOn m) e)
   service-by ws ys due a d p q =
-      let t = then sizes 0 ys (omega arith) (ap length q) (then sizes 1 ws (omega arith) a (here sizes m l)) in
+      let t = then sizes 1 ys (omega arith) (ap length q) (then sizes 2 ws (omega arith) a (here sizes m l)) in
       let p2 = p ∙ (ap (collectionAfter (stateOn m .collection) e) d ∙ collection-watched (stateOn m .collection) e (arrearsBy (stateOn m .ledger) (e .day))) in
       record {
         words-are = t .words-are;
@@ -121,6 +123,7 @@ module _ (m : List ℕ) (l : length m ≡ accountSize) (e : Event) where
             ap stateOf (t .cuts)
             ∙ (λ i.
             record {
+              layout = stateOn m .layout;
               last = getD (q i) 0 0;
               collection = p2 i;
               deposit = stateOn m .deposit;
@@ -164,6 +167,7 @@ module _ (v : View) (e : Event) where
   applied-seen s =
       λ i.
       serviceAfter (fileAfter (record {
+        layout = s .layout;
         last = s .last;
         collection = s .collection;
         deposit = s .deposit;

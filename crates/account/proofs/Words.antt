@@ -25,14 +25,15 @@ use Rattle.account.specs.State.{State, sizes, accountSize, stateOf, stat
 -- equal accounts are equal memory: the words of the account that memory is are the memory
 pub account-whole : (m : List ℕ) → length m ≡ accountSize → wordsOf (stateOn m) ≡ m
 account-whole m l =
-    let a = sym (whole 1 (part sizes 0 m) (part-length sizes 0 m (omega arith) l)) in
-    let b = collection-whole (part sizes 1 m) (part-length sizes 1 m (omega arith) l) in
-    let c = deposit-whole (part sizes 2 m) (part-length sizes 2 m (omega arith) l) in
-    let d = medical-whole (part sizes 3 m) (part-length sizes 3 m (omega arith) l) in
-    let e = arrangement-whole (part sizes 4 m) (part-length sizes 4 m (omega arith) l) in
-    let f = receipts-whole (part sizes 5 m) (part-length sizes 5 m (omega arith) l) in
-    let g = ledger-whole (part sizes 6 m) (part-length sizes 6 m (omega arith) l) in
-    (λ i. joined (a i ∷ b i ∷ c i ∷ d i ∷ e i ∷ f i ∷ g i ∷ [])) ∙ joined-cut sizes 0 m (sym l)
+    let z = sym (whole 1 (part sizes 0 m) (part-length sizes 0 m (omega arith) l)) in
+    let a = sym (whole 1 (part sizes 1 m) (part-length sizes 1 m (omega arith) l)) in
+    let b = collection-whole (part sizes 2 m) (part-length sizes 2 m (omega arith) l) in
+    let c = deposit-whole (part sizes 3 m) (part-length sizes 3 m (omega arith) l) in
+    let d = medical-whole (part sizes 4 m) (part-length sizes 4 m (omega arith) l) in
+    let e = arrangement-whole (part sizes 5 m) (part-length sizes 5 m (omega arith) l) in
+    let f = receipts-whole (part sizes 6 m) (part-length sizes 6 m (omega arith) l) in
+    let g = ledger-whole (part sizes 7 m) (part-length sizes 7 m (omega arith) l) in
+    (λ i. joined (z i ∷ a i ∷ b i ∷ c i ∷ d i ∷ e i ∷ f i ∷ g i ∷ [])) ∙ joined-cut sizes 0 m (sym l)
 
 -- the rings of an account have their places
 pub record Ringed (s : State) : Type 0 where
@@ -42,13 +43,14 @@ pub record Ringed (s : State) : Type 0 where
 pub ringed-on : (m : List ℕ) → length m ≡ accountSize → Ringed (stateOn m)
 ringed-on m l =
     record {
-      receipts-ring = rw length-drop (omega (arith, part-length sizes 5 m (omega arith) l));
-      ledger-ring = rw length-drop (omega (arith, part-length sizes 6 m (omega arith) l));
+      receipts-ring = rw length-drop (omega (arith, part-length sizes 6 m (omega arith) l));
+      ledger-ring = rw length-drop (omega (arith, part-length sizes 7 m (omega arith) l));
     }
 
 abbrev spansOf : State → List (List ℕ)
 spansOf s =
-    (s .last ∷ [])
+    (s .layout ∷ [])
+    ∷ (s .last ∷ [])
     ∷ collectionWords (s .collection)
     ∷ depositWords (s .deposit)
     ∷ medicalWords (s .medical)
@@ -58,7 +60,7 @@ spansOf s =
     ∷ []
 
 sized : (s : State) → Ringed s → Sized sizes (spansOf s)
-sized s r = (refl, (refl, (refl, (refl, (refl, (omega (arith, r .receipts-ring), (omega (arith, r .ledger-ring), tt)))))))
+sized s r = (refl, (refl, (refl, (refl, (refl, (refl, (omega (arith, r .receipts-ring), (omega (arith, r .ledger-ring), tt))))))))
 
 pub words-length : (s : State) → Ringed s → length (wordsOf s) ≡ accountSize
 words-length s r = omega (arith, joined-length sizes (spansOf s) 0 (sized s r))

@@ -21,8 +21,9 @@ use Rattle.receipts.specs.Receipts.{paymentBy}
 use Rattle.ledger.specs.Ledger.{sumsOf, arrearsBy}
 use Rattle.account.specs.declared.look.Debts.{Debts}
 use Rattle.account.specs.declared.look.Money.{Money}
+use Rattle.account.specs.declared.rows.Rows.{Rows}
 use Rattle.account.specs.State.{State, accountSize, stateOn, Fit, view, applied}
-use Rattle.account.specs.Post.{receiptAt}
+use Rattle.account.specs.Post.{refusalAt, receiptAt}
 
 -- ---- what is read
 -- what only the kinds that look at the debt look at, on day t; where it is not wanted, nothing
@@ -89,6 +90,11 @@ pub record Passing (m : List ℕ) (e : Event) (v : View) (charge : ℕ) : Type 0
   pub looked : v ≡ seenOf (view (stateOn m) e) e
   pub free : refusalBy v e ≡ 0
   pub charged : charge ≡ min (chargeOf v e) largest
+
+-- the rows were asked about e: the number that refuses it, and what is known where none does
+pub record Asked (m : List ℕ) (e : Event) (r : Rows) : Type 0 where
+  pub number-is : r .number ≡ refusalAt (stateOn m) e
+  pub passing : r .number ≡ 0 → Passing m e (r .view) (r .charge)
 
 -- e was applied: the account afterwards, and the receipt
 pub record Applied (m : List ℕ) (e : Event) (v : View) (k : List ℕ) (r : ℕ) : Type 0 where

@@ -4,7 +4,7 @@ use mathlib.Core.Path.{_≡_}
 use mathlib.Core.Bool.{Bool, _&&_}
 use mathlib.Core.List.{List, [], _∷_}
 use lib.Dec.{leb, eqb}
-use lib.ListN.{length, getD}
+use lib.ListN.{length, getD, replicate}
 use Rattle.span.specs.Span.{cut, joined}
 use Rattle.rules.specs.declared.Event.{Event}
 use Rattle.rules.specs.declared.View.{View}
@@ -23,6 +23,8 @@ use Rattle.receipts.specs.Receipts.{Receipts, receiptsSize, receiptsOn, receipt
 use Rattle.ledger.specs.Ledger.{Ledger, ledgerSize, ledgerOn, ledgerWords, noLedger, creditsBy, arrearsBy, ledgerAfter, ledgerOf, ledgerOk, LedgerFit}
 
 pub record State : Type 0 where
+  -- the number of the layout, by which memory of another version is told
+  pub layout : ℕ
   -- the day of the last accepted event
   pub last : ℕ
   pub collection : Collection
@@ -35,22 +37,27 @@ pub record State : Type 0 where
 -- ---- its words
 -- how many words each part takes, in the order in which they lie
 abbrev pub sizes : List ℕ
-sizes = 1 ∷ collectionSize ∷ depositSize ∷ medicalSize ∷ arrangementSize ∷ receiptsSize ∷ ledgerSize ∷ []
+sizes = 1 ∷ 1 ∷ collectionSize ∷ depositSize ∷ medicalSize ∷ arrangementSize ∷ receiptsSize ∷ ledgerSize ∷ []
 
 abbrev pub accountSize : ℕ
-accountSize = 187
+accountSize = 188
+
+-- the number of this layout: a million and one, more than any day, with which an account once began
+abbrev pub layoutNumber : ℕ
+layoutNumber = 1000001
 
 -- the account of these spans
 abbrev pub stateOf : List (List ℕ) → State
 stateOf cs =
     record {
-      last = getD (getD cs 0 []) 0 0;
-      collection = collectionOn (getD cs 1 []);
-      deposit = depositOn (getD cs 2 []);
-      medical = medicalOn (getD cs 3 []);
-      arrangement = arrangementOn (getD cs 4 []);
-      receipts = receiptsOn (getD cs 5 []);
-      ledger = ledgerOn (getD cs 6 []);
+      layout = getD (getD cs 0 []) 0 0;
+      last = getD (getD cs 1 []) 0 0;
+      collection = collectionOn (getD cs 2 []);
+      deposit = depositOn (getD cs 3 []);
+      medical = medicalOn (getD cs 4 []);
+      arrangement = arrangementOn (getD cs 5 []);
+      receipts = receiptsOn (getD cs 6 []);
+      ledger = ledgerOn (getD cs 7 []);
     }
 
 -- the account that the words m are
@@ -61,7 +68,8 @@ stateOn m = stateOf (cut 0 sizes m)
 abbrev pub wordsOf : State → List ℕ
 wordsOf s =
     joined (
-    (s .last ∷ [])
+    (s .layout ∷ [])
+    ∷ (s .last ∷ [])
     ∷ collectionWords (s .collection)
     ∷ depositWords (s .deposit)
     ∷ medicalWords (s .medical)
@@ -75,6 +83,7 @@ wordsOf s =
 abbrev pub fresh : State
 fresh =
     record {
+      layout = layoutNumber;
       last = 0;
       collection = noCollection;
       deposit = noDeposit;
@@ -84,10 +93,15 @@ fresh =
       ledger = noLedger;
     }
 
+-- its words: the number of the layout, and zeros
+abbrev pub freshWords : List ℕ
+freshWords = layoutNumber ∷ replicate (accountSize - 1) 0
+
 -- the account that a history makes: each part fed with the rules' values, none with another part's
 abbrev pub accountOf : History → State
 accountOf h =
     record {
+      layout = layoutNumber;
       last = lastPosted h;
       collection = collectionOf h;
       deposit = depositOf h;
@@ -98,7 +112,7 @@ accountOf h =
     }
 
 -- ---- the test
--- each part passes its own: the money's parts, what is kept on file, the service and the day
+-- it is of this layout, and each part passes its own: the money's parts, what is kept on file, the service and the day
 abbrev pub moneyOk : State → Bool
 moneyOk s = arrangementOk (s .arrangement) && receiptsOk (s .receipts) && ledgerOk (s .ledger)
 
@@ -106,7 +120,7 @@ abbrev pub fileOk : State → Bool
 fileOk s = depositOk (s .deposit) && medicalOk (s .medical)
 
 abbrev pub serviceOk : State → Bool
-serviceOk s = leb (s .last) finalDay && collectionOk (s .collection)
+serviceOk s = eqb (s .layout) layoutNumber && leb (s .last) finalDay && collectionOk (s .collection)
 
 unfoldable pub stateOk : State → Bool
 stateOk s = serviceOk s && (fileOk s && moneyOk s)
@@ -153,6 +167,7 @@ view s e =
 abbrev pub moneyAfter : State → Event → View → State
 moneyAfter s e v =
     record {
+      layout = s .layout;
       last = s .last;
       collection = s .collection;
       deposit = s .deposit;
@@ -166,6 +181,7 @@ moneyAfter s e v =
 abbrev pub fileAfter : State → Event → State
 fileAfter s e =
     record {
+      layout = s .layout;
       last = s .last;
       collection = s .collection;
       deposit = depositAfter (s .deposit) e;
@@ -179,6 +195,7 @@ fileAfter s e =
 abbrev pub serviceAfter : State → Event → State
 serviceAfter s e =
     record {
+      layout = s .layout;
       last = e .day;
       collection = collectionAfter (s .collection) e (arrearsBy (s .ledger) (e .day));
       deposit = s .deposit;

@@ -2,6 +2,7 @@
 // other way to post is a door to it.
 mod look;
 pub mod many;
+mod rows;
 pub mod spans;
 mod step;
 mod ways;
@@ -11,13 +12,13 @@ use rules::Event;
 use rules::kinds::BILL;
 use rules::kinds::FEE;
 use rules::kinds::PAYMENT;
-use spans::COLLECTION;
-use spans::LAST;
+use spans::LAYOUT;
+use spans::LAYOUT_NUMBER;
 pub use spans::WORDS;
 ghost use mathlib.Core.Path.{_≡_};
 ghost use lib.ListN.{length, replicate};
-ghost use Rattle.account.specs.State.{accountSize, Fit, passes as isAccount};
-ghost use Rattle.account.specs.Post.{Judges, Leaves, posted};
+ghost use Rattle.account.specs.State.{accountSize, freshWords, Fit, passes as isAccount};
+ghost use Rattle.account.specs.Post.{answerTo, Judges, Leaves, posted};
 
 // An account by value.
 pub struct Account {
@@ -40,8 +41,7 @@ pub fn passes(m: &[u64]) -> bool
     false
 }
 
-// Memory with the words of an account becomes a fresh one: no events, service on, all sums 0.
-pub fn clear(m: &mut [u64])
+fn wipe(m: &mut [u64])
     requires { ⌜ length (now m) ≡ accountSize ⌝ }
     ensures { λ _. ⌜ now (m .exit) ≡ replicate accountSize 0 ⌝ }
 {
@@ -52,24 +52,26 @@ pub fn clear(m: &mut [u64])
     }
 }
 
-// An event of any kind: rows 1 to 3 first, so that the rest sees an event in range.
+// Memory with the words of an account becomes a fresh one: no events, service on, all sums 0.
+pub fn clear(m: &mut [u64])
+    requires { ⌜ length (now m) ≡ accountSize ⌝ }
+    ensures { λ _. ⌜ now (m .exit) ≡ freshWords ⌝ }
+{
+    wipe(m);
+    m[LAYOUT] = LAYOUT_NUMBER;
+}
+
+// An event of any kind.
 fn judge_any(m: &mut [u64], e: Event) -> Answer
     requires { ⌜ Fit (now m) ⌝ }
     ensures { λ r. ⌜ Judges (now (m .entry)) e r (now (m .exit)) ⌝ }
 {
-    let last = span::word(&m[LAST..COLLECTION]);
-    let first = range::first_row(last, e);
-    if first == 0 {
-        let v = look::seen(m, e);
-        let charge = amounts::charge(v, e);
-        let n = table::refusal(v, e, charge);
-        if n == 0 {
-            let receipt = step::apply(m, e, v, charge);
-            return Answer::Accepted(receipt);
-        }
-        return Answer::Refused(n);
+    let r = rows::ask(m, e);
+    if r.number == 0 {
+        let receipt = step::apply(m, e, r.view, r.charge);
+        return Answer::Accepted(receipt);
     }
-    Answer::Refused(first)
+    Answer::Refused(r.number)
 }
 
 // One event judged by the table, in memory that is known to be an account. What is refused changes nothing.
@@ -96,12 +98,24 @@ pub fn post(m: &mut [u64], e: Event) -> Answer
     Answer::Refused(0)
 }
 
+// The answer that posting the event would give, with the account left alone.
+pub fn would_answer(m: &[u64], e: Event) -> Answer
+    ensures { λ r. ⌜ r ≡ answerTo (now (m .entry)) e ⌝ }
+{
+    if passes(m) {
+        return rows::answer(m, e);
+    }
+    Answer::Refused(0)
+}
+
 impl Account {
     // No events, service on, all sums 0.
     pub fn fresh() -> Account
-        ensures { λ r. ⌜ r .memory ≡ replicate accountSize 0 ⌝ }
+        ensures { λ r. ⌜ r .memory ≡ freshWords ⌝ }
     {
-        Account { memory: [0; WORDS] }
+        let mut memory = [0; WORDS];
+        memory[LAYOUT] = LAYOUT_NUMBER;
+        Account { memory }
     }
 
     // One event posted to the account by value, which is handed back.

@@ -3,6 +3,8 @@ use crate::spans::ARRANGEMENT;
 use crate::spans::COLLECTION;
 use crate::spans::DEPOSIT;
 use crate::spans::LAST;
+use crate::spans::LAYOUT;
+use crate::spans::LAYOUT_NUMBER;
 use crate::spans::LEDGER;
 use crate::spans::MEDICAL;
 use crate::spans::RECEIPTS;
@@ -167,15 +169,16 @@ fn file_ok(m: &[u64]) -> bool
     false
 }
 
-// The test that each account reached from a fresh one passes: each part its own. It goes part by part, so that few numbers are
-// held at a time.
+// The test that each account reached from a fresh one passes: it is of this layout, and each part passes its own. It goes part by
+// part, so that few numbers are held at a time.
 pub fn ok(m: &[u64]) -> bool
     requires { ⌜ length (now m) ≡ accountSize ⌝ }
     ensures { λ r. ⌜ r ≡ stateOk (stateOn (now (m .entry))) ⌝ }
 {
+    let layout = span::word(&m[LAYOUT..LAST]);
     let last = span::word(&m[LAST..COLLECTION]);
     let c = collection::load(&m[COLLECTION..DEPOSIT]);
-    if (last <= FINAL_DAY) & c.ok() {
+    if (layout == LAYOUT_NUMBER) & (last <= FINAL_DAY) & c.ok() {
         return file_ok(m);
     }
     false

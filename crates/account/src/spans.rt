@@ -1,9 +1,12 @@
 // Where each part of an account begins: the parts lie one after another, each in a span of its own.
 
-// the day of the last accepted event
-pub const LAST: usize = 0;
+// the number of the layout, by which memory of another version is told
+pub const LAYOUT: usize = 0;
 
-pub const COLLECTION: usize = 1;
+// the day of the last accepted event
+pub const LAST: usize = 1;
+
+pub const COLLECTION: usize = 2;
 
 pub const DEPOSIT: usize = COLLECTION + collection::WORDS;
 
@@ -17,3 +20,7 @@ pub const LEDGER: usize = RECEIPTS + receipts::WORDS;
 
 // how many words an account has
 pub const WORDS: usize = LEDGER + ledger::WORDS;
+
+// The number of this layout: a million and one, more than any day, with which an account once began. One that is laid out
+// otherwise has another.
+pub const LAYOUT_NUMBER: u64 = 1_000_001;

@@ -24,11 +24,10 @@ use Rattle.layout.specs.Book.{records, bookRefusal, flat, decode}
 use Rattle.layout.specs.Finding.{recordOf, accountOf, IsAccount}
 use Rattle.layout.proofs.Found.{flat-length}
 use Rattle.account.specs.declared.Posted.{Posted}
-use Rattle.account.specs.State.{wordsOf, accountOf as partsOf}
+use Rattle.account.specs.State.{wordsOf, freshWords, accountOf as partsOf}
 use Rattle.account.specs.Post.{answerTo, wordsAfter}
 use Rattle.questions.specs.Questions.{owedIn}
 use Rattle.claim.specs.Run.{answers}
-use Rattle.claim.specs.Claim.{freshWords}
 use Rattle.questions.proofs.Laws.{laws}
 use Rattle.questions.proofs.Told.{owed-is}
 use Rattle.claim.proofs.Compose.{words-after, fresh-is}

@@ -11,9 +11,9 @@ use Rattle.layout.specs.declared.Span.{Span}
 use Rattle.layout.specs.Book.{records, bookRefusal, flat, decode}
 use Rattle.layout.specs.Finding.{recordOf, accountOf, IsAccount}
 use Rattle.layout.proofs.Found.{walk-step}
-use Rattle.account.specs.State.{Fit}
+use Rattle.account.specs.State.{freshWords, Fit}
 use Rattle.account.specs.Post.{Judges}
-use Rattle.claim.specs.Claim.{freshWords, accepts, Ran}
+use Rattle.claim.specs.Claim.{accepts, Ran}
 use Rattle.claim.proofs.Walk.{Walked, begin, walked-fit, walked-leaves, one-more, one-at-most, ran}
 
 -- the records that are left from record k on

@@ -15,7 +15,8 @@ ghost use lib.Seq.{sets};
 ghost use Rattle.layout.specs.Book.{bookRefusal};
 ghost use Rattle.layout.specs.Answers.{numberOf, outcomeOf};
 ghost use Rattle.layout.specs.Finding.{accountOf};
-ghost use Rattle.claim.specs.Claim.{freshWords, accepts, Ran};
+ghost use Rattle.account.specs.State.{freshWords};
+ghost use Rattle.claim.specs.Claim.{accepts, Ran};
 ghost use Rattle.bookpost.specs.History.{numbersOf, owedFrom, historyRefusal, Told};
 
 // 1 for a refusal.

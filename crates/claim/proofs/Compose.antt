@@ -19,10 +19,9 @@ use Rattle.deposit.specs.Deposit.{depositOf}
 use Rattle.collection.specs.Collection.{collectionOf}
 use Rattle.medical.specs.Medical.{medicalOf}
 use Rattle.arrangement.specs.Arrangement.{arrangementOf}
-use Rattle.account.specs.State.{wordsOf, view, applied, accountOf}
+use Rattle.account.specs.State.{wordsOf, freshWords, view, applied, accountOf}
 use Rattle.account.specs.Post.{refusalAt, receiptAt, answerAt, stateAfter, answerTo, wordsAfter}
 use Rattle.claim.specs.Run.{run, answers}
-use Rattle.claim.specs.Claim.{freshWords}
 use Rattle.questions.proofs.Laws.{Laws, laws}
 
 -- ---- the account's View is the history's, on a day not before its last event

@@ -14,14 +14,14 @@ use Rattle.rules.specs.History.{History}
 use Rattle.rules.specs.Accepted.{refusal, offered, acceptedAfter, accepted, Lawful, answersAfter, cutOn}
 use Rattle.rules.proofs.Lawful.{accepted-lawful, numbers-are, receipts-are, money}
 use Rattle.rules.proofs.Cut.{cut-exact}
-use Rattle.account.specs.State.{stateOn, wordsOf, accountOf, passes}
+use Rattle.account.specs.State.{stateOn, wordsOf, freshWords, accountOf, passes}
 use Rattle.account.specs.Post.{refusalAt, answerAt, stateAfter, answerTo, wordsAfter, Leaves}
 use Rattle.account.proofs.Words.{account-whole}
 use Rattle.account.proofs.Exits.{passed-size}
 use Rattle.questions.proofs.Laws.{laws}
 use Rattle.questions.proofs.Told as told
 use Rattle.claim.specs.Run.{run, answers, LeftBy}
-use Rattle.claim.specs.Claim.{freshWords, accepts, refusedIn, ClaimOf, Claim, LeftClaim}
+use Rattle.claim.specs.Claim.{accepts, refusedIn, ClaimOf, Claim, LeftClaim}
 use Rattle.claim.proofs.Compose.{answer-to, run-same, answers-same, fresh-is}
 
 -- an answer accepts exactly where no number refuses
@@ -59,6 +59,7 @@ claim-of es h w n =
       noticed = told.notice-is h k;
       certificated = told.certified-is h k;
       money = rw (told.owed-is h k, told.held-is h k) (money h w);
+      would = λ e. answer-to h e w;
       cuts = λ t p q. ap accepts (answer-to h (cutOn t) w) ∙ (accepts-is (eqb (refusal h (cutOn t)) 0) _ _ ∙ cut-exact h t p q);
       passing = k .passing;
       words = refl;

@@ -1,17 +1,18 @@
 -- Demand 3 holds of every one of many accounts in one memory.
-use Prim.Native.Nat.{ℕ, zero, suc, _*_, _-_, _≤_, _<_}
+use Prim.Native.Nat.{ℕ, zero, suc, _+_, _*_, _<_}
 use mathlib.Core.Path.{_≡_, refl, ap, _∙_}
-use mathlib.Core.List.{List, [], _∷_}
+use mathlib.Core.List.{List, [], _∷_, _++_}
 use native.Mathlib.Omega.{arith}
-use lib.ListN.{length, take, drop, replicate, length-replicate}
+use lib.ListN.{length, take, drop, replicate, length-append}
+use lib.Seq.{take-at, drop-append-add}
 use Rattle.basics.proofs.Cases.{on-eq}
+use Rattle.span.specs.Span.{joined}
 use Rattle.rules.specs.declared.Answer.{Answer}
-use Rattle.account.specs.State.{accountSize}
+use Rattle.account.specs.State.{accountSize, freshWords}
 use Rattle.account.specs.Post.{answerTo, wordsAfter}
 use Rattle.account.specs.Many.{accountAt}
 use Rattle.account.proofs.Others.{stays-long, this-account, other-account}
 use Rattle.claim.specs.Run.{run, answers}
-use Rattle.claim.specs.Claim.{freshWords}
 use Rattle.claim.specs.Many.{Posting, eventsAt, answersAt, LeftAt, ManyClaim}
 use Rattle.claim.proofs.Demand.{demand-3}
 
@@ -35,25 +36,26 @@ each n all (p ∷ ps) (s ∷ said) z i l h t =
     let w = other-account (p .index) i all (p .event) s b e v in
     rw q (r .0 ∙ ap (λ m. run m (eventsAt i ps)) w, r .1 ∙ ap (λ m. answers m (eventsAt i ps)) w))
 
--- a part of zeros is zeros
-take-zeros : (k n : ℕ) → k ≤ n → take {A = ℕ} k (replicate n 0) ≡ replicate k 0
-take-zeros zero n h = refl
-take-zeros (suc k) zero h = absurd (omega arith)
-take-zeros (suc k) (suc n) h = ap (λ l. 0 ∷ l) (take-zeros k n (omega arith))
+-- ---- n fresh accounts, one after another
+fresh-size : length freshWords ≡ accountSize
+fresh-size = refl
 
-drop-zeros : (a n : ℕ) → drop {A = ℕ} a (replicate n 0) ≡ replicate (n - a) 0
-drop-zeros zero n = let z : n - 0 ≡ n = omega arith in rw z
-drop-zeros (suc a) zero = let z : 0 - suc a ≡ 0 = omega arith in rw z
-drop-zeros (suc a) (suc n) = drop-zeros a n ∙ (let z : n - a ≡ suc n - suc a = omega arith in rw z)
+begun-size : (n : ℕ) → length (joined (replicate n freshWords)) ≡ n * accountSize
+begun-size zero = refl
+begun-size (suc n) = length-append freshWords (joined (replicate n freshWords)) ∙ omega (arith, begun-size n)
 
-fresh-at : (n i : ℕ) → i < n → accountAt i (replicate (n * accountSize) 0) ≡ freshWords
-fresh-at n i h =
-    ap (take accountSize) (drop-zeros (i * accountSize) (n * accountSize))
-    ∙ take-zeros accountSize (n * accountSize - i * accountSize) (omega arith)
+fresh-at : (n i : ℕ) → i < n → accountAt i (joined (replicate n freshWords)) ≡ freshWords
+fresh-at zero i h = absurd (omega arith)
+fresh-at (suc n) zero h = take-at freshWords (joined (replicate n freshWords)) accountSize fresh-size
+fresh-at (suc n) (suc i) h =
+    let rest = joined (replicate n freshWords) in
+    let z : suc i * accountSize ≡ accountSize + i * accountSize = omega arith in
+    let past = ap (λ k. drop k (freshWords ++ rest)) z ∙ drop-append-add freshWords rest (i * accountSize) in
+    ap (take accountSize) past ∙ fresh-at n i (omega arith)
 
 -- DEMAND 3
 pub demand-3-many : (n : ℕ) (ps : List Posting) (said : List Answer) (z : List ℕ) → ManyClaim n ps said z
 demand-3-many n ps said z t i h =
-    let r = each n (replicate (n * accountSize) 0) ps said z i (length-replicate (n * accountSize) 0) h t in
+    let r = each n (joined (replicate n freshWords)) ps said z i (begun-size n) h t in
     let f = fresh-at n i h in
     rw (r .0, r .1, f) (demand-3 (eventsAt i ps))

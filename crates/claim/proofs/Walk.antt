@@ -7,11 +7,11 @@ use native.Mathlib.Omega.{arith}
 use lib.ListN.{length}
 use Rattle.rules.specs.declared.Event.{Event}
 use Rattle.rules.specs.declared.Answer.{Answer}
-use Rattle.account.specs.State.{accountSize, passes, Fit}
+use Rattle.account.specs.State.{accountSize, freshWords, passes, Fit}
 use Rattle.account.specs.Post.{answerTo, wordsAfter, Judges, Leaves}
 use Rattle.account.proofs.Exits.{passed-size, passed-fit, leaves-judged}
 use Rattle.claim.specs.Run.{run, answers}
-use Rattle.claim.specs.Claim.{freshWords, accepts, refusedIn, Ran}
+use Rattle.claim.specs.Claim.{accepts, refusedIn, Ran}
 use Rattle.claim.proofs.Demand.{demand-3}
 
 -- ---- one more event at the end

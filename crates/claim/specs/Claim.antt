@@ -7,7 +7,7 @@ use mathlib.Core.Path.{_≡_}
 use mathlib.Core.Bool.{Bool, true, false, cond}
 use mathlib.Core.List.{List, [], _∷_, map}
 use lib.IntN.{pos, subℕ, _-ℤ_}
-use lib.ListN.{length, replicate}
+use lib.ListN.{length}
 use Rattle.rules.specs.declared.Event.{Event}
 use Rattle.rules.specs.declared.Answer.{Answer}
 use Rattle.rules.specs.declared.Answer.the-variants.{Accepted, Refused}
@@ -21,15 +21,11 @@ use Rattle.rules.specs.Notice.{noticeLive}
 use Rattle.rules.specs.Medical.{certified}
 use Rattle.rules.specs.Arrangement.{inForce}
 use Rattle.rules.specs.Sums.{lateCharges, feesCharged, returnedPayments}
-use Rattle.rules.specs.Accepted.{dayRefusal, accepted, answersBy, refusalsAfter, receiptsAfter, cutOn, mayCut}
-use Rattle.account.specs.State.{accountSize, wordsOf, accountOf, passes}
+use Rattle.rules.specs.Accepted.{dayRefusal, accepted, answersBy, refusalsAfter, receiptsAfter, answer, cutOn, mayCut}
+use Rattle.account.specs.State.{wordsOf, freshWords, accountOf, passes}
 use Rattle.account.specs.Post.{answerTo, Leaves}
 use Rattle.questions.specs.Questions.{owedIn, heldIn, requiredIn, serviceIn, openIn, countIn, arrearsOn, inForceOn, noticeLiveOn, certifiedOn, Tells, Says}
 use Rattle.claim.specs.Run.{run, answers, LeftBy}
-
--- a fresh account: every word is 0
-abbrev pub freshWords : List ℕ
-freshWords = replicate accountSize 0
 
 -- an answer accepts or refuses
 abbrev pub accepts : Answer → Bool
@@ -73,6 +69,8 @@ pub record ClaimOf (m : List ℕ) (said : List Answer) (es : List Event) (h : Hi
   -- owed less held is bills, late charges, fees, returned payments and payouts, less payments and deposits paid
   pub money : owedIn m -ℤ pos (heldIn m)
       ≡ subℕ (total bill h + lateCharges h + feesCharged h + returnedPayments h + total payout h) (total payment h + total depositPaid h)
+  -- what would be answered to any event now is what the accepted events alone give
+  pub would : (e : Event) → answerTo m e ≡ answer h e
   -- on each day in range and not before the last accepted event, a well-formed disconnection is accepted exactly when the accepted events show that it is lawful
   pub cuts : (t : ℕ) → t ≤ finalDay → lastPosted h ≤ t → accepts (answerTo m (cutOn t)) ≡ mayCut h t
   -- the account passes the test

@@ -1,14 +1,15 @@
 -- DEMAND 3 for many accounts that lie in one memory: postings on one or another of them, in any order.
-use Prim.Native.Nat.{ℕ, _*_, _<_}
+use Prim.Native.Nat.{ℕ, _<_}
 use mathlib.Core.Path.{_≡_}
 use mathlib.Core.Bool.{cond}
 use mathlib.Core.List.{List, [], _∷_}
 use lib.Dec.{eqb}
 use lib.ListN.{replicate}
+use Rattle.span.specs.Span.{joined}
 use Rattle.rules.specs.declared.Event.{Event}
 use Rattle.rules.specs.declared.Answer.{Answer}
 use Rattle.rules.specs.Accepted.{accepted}
-use Rattle.account.specs.State.{accountSize}
+use Rattle.account.specs.State.{freshWords}
 use Rattle.account.specs.Many.{accountAt, LeavesAt}
 use Rattle.claim.specs.Claim.{ClaimOf}
 
@@ -34,8 +35,8 @@ LeftAt all [] (s ∷ said) z = ⊥
 LeftAt all (p ∷ ps) [] z = ⊥
 LeftAt all (p ∷ ps) (s ∷ said) z = (b : List ℕ) × (LeavesAt (p .index) all (p .event) s b × LeftAt b ps said z)
 
--- n fresh accounts at first: of each of them the claim holds, by the events for it alone
+-- n fresh accounts at first, one after another: of each of them the claim holds, by the events for it alone
 abbrev pub ManyClaim : ℕ → List Posting → List Answer → List ℕ → Type 0
 ManyClaim n ps said z =
-    LeftAt (replicate (n * accountSize) 0) ps said z
+    LeftAt (joined (replicate n freshWords)) ps said z
     → (i : ℕ) → i < n → ClaimOf (accountAt i z) (answersAt i ps said) (eventsAt i ps) (accepted (eventsAt i ps))

@@ -16,12 +16,11 @@ use Rattle.rules.specs.Answer.{receiptOf}
 use Rattle.rules.specs.Accepted.{accepted}
 use Rattle.rules.proofs.Lawful.{accepted-lawful}
 use Rattle.rules.proofs.Bounds.{arrears-charged, charged-limit}
-use Rattle.account.specs.State.{State, accountSize, stateOn, passes}
+use Rattle.account.specs.State.{State, accountSize, freshWords, stateOn, passes}
 use Rattle.account.specs.Post.{refusalAt, answerAt, answerTo, wordsAfter}
 use Rattle.account.specs.Many.{accountAt, hasAccount, answerAtOf}
 use Rattle.account.proofs.Exits.{passed-fit}
 use Rattle.claim.specs.Run.{run, answers, LeftBy}
-use Rattle.claim.specs.Claim.{freshWords}
 use Rattle.claim.proofs.Demand.{demand-3}
 use Rattle.hollupaq.specs.Library.{answerWord, Keeps, Begun, KeptClaim}
 use Rattle.hollupaq.proofs.Told.{told-word, said-word}
@@ -76,6 +75,7 @@ demand-3-kept es said z left =
       dues = λ u. rw (t .0) (told-word _ _ _ (small u) (d .dues u));
       arranged = λ u. rw (t .0) (said-word _ _ _ (d .arranged u));
       noticed = λ u. rw (t .0) (said-word _ _ _ (d .noticed u));
+      would = λ e. rw (t .0) (ap answerWord (d .would e));
       certificated = λ u. rw (t .0) (said-word _ _ _ (d .certificated u));
     }
 

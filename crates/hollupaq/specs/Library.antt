@@ -13,8 +13,8 @@ use Rattle.rules.specs.Money.{arrears}
 use Rattle.rules.specs.Notice.{noticeLive}
 use Rattle.rules.specs.Medical.{certified}
 use Rattle.rules.specs.Arrangement.{inForce}
-use Rattle.rules.specs.Accepted.{dayRefusal, accepted, answersBy}
-use Rattle.account.specs.State.{accountSize}
+use Rattle.rules.specs.Accepted.{dayRefusal, accepted, answer, answersBy}
+use Rattle.account.specs.State.{accountSize, freshWords}
 use Rattle.account.specs.Post.{answerTo, wordsAfter}
 use Rattle.account.specs.Many.{answerAtOf, wordsAtAfter}
 use Rattle.questions.specs.declared.Amount.{Amount}
@@ -23,8 +23,12 @@ use Rattle.questions.specs.declared.Truth.{Truth}
 use Rattle.questions.specs.declared.Truth.the-variants as truth
 use Rattle.questions.specs.Questions.{arrearsOn, inForceOn, noticeLiveOn, certifiedOn}
 use Rattle.claim.specs.Run.{LeftBy}
-use Rattle.claim.specs.Claim.{freshWords, ClaimOf}
+use Rattle.claim.specs.Claim.{ClaimOf}
 use Rattle.report.specs.Report.{printLength, printedIn}
+
+-- version 1.0.0: ten thousands, hundreds and ones
+abbrev pub libraryVersion : ℕ
+libraryVersion = 10000
 
 -- under 256 the number that refuses; where none does, 256 and the value asked for
 abbrev pub told : ℕ → ℕ → ℕ
@@ -75,6 +79,8 @@ truthWord (truth.Refused n) = n
 pub record KeptClaimOf (z : List ℕ) (said : List ℕ) (es : List Event) : Type 0 where
   pub answered : said ≡ map answerWord (answersBy es)
   pub claim : ClaimOf z (answersBy es) es (accepted es)
+  -- what would be answered to any event now is what the accepted events alone give
+  pub would : (e : Event) → answerWord (answerTo z e) ≡ answerWord (answer (accepted es) e)
   -- and for any day what the accepted events say of it, refused with 1 or 2 as an event is
   pub dues : (t : ℕ) → amountWord (arrearsOn z t) ≡ told (dayRefusal (accepted es) t) (arrears (accepted es) t)
   pub arranged : (t : ℕ) → truthWord (inForceOn z t) ≡ toldYes (dayRefusal (accepted es) t) (inForce (accepted es) t)

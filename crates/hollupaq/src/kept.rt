@@ -6,12 +6,14 @@ use rules::Answer;
 use rules::Event;
 use rules::Service;
 ghost use mathlib.Core.Path.{_≡_};
+ghost use mathlib.Core.Bool.{cond};
 ghost use Prim.Native.Nat.{_≤_};
 ghost use lib.ListN.{getD};
 ghost use Rattle.rules.specs.Answer.{receiptOf};
 ghost use Rattle.collection.specs.Collection.{serviceNumber};
 ghost use Rattle.ledger.specs.Ledger.{noItem};
-ghost use Rattle.account.specs.State.{accountSize};
+ghost use Rattle.account.specs.State.{accountSize, passes as isAccount};
+ghost use Rattle.account.specs.Post.{answerTo};
 ghost use Rattle.questions.specs.Questions.{owedIn, heldIn, requiredIn, serviceIn, openIn, countIn};
 ghost use Rattle.hollupaq.specs.Library.{answerWord, Keeps, KeepsAt, Begun};
 
@@ -41,6 +43,14 @@ pub extern "C" fn hollupaq_words() -> u64
     ensures { λ r. ⌜ r ≡ accountSize ⌝ }
 {
     WORDS as u64
+}
+
+// Whether memory is an account, 1 or 0: it has the words of one, begins with the number of this layout, and passes the test.
+#[no_mangle]
+pub extern "C" fn hollupaq_ok(account: &[u64]) -> u8
+    ensures { λ r. ⌜ r ≡ cond (isAccount (now (account .entry))) 1 0 ⌝ }
+{
+    basics::select8(account::passes(account), 1, 0)
 }
 
 // No events, service on, all sums 0: 1 where the memory is such an account now, 0 where it has not the words of one and stays
@@ -78,7 +88,28 @@ pub extern "C" fn hollupaq_post(
     word_of(answer)
 }
 
-// The same on account i, from 0, of many that lie one after another; 0 where there is no account i.
+// What posting the event would answer, with the account left alone.
+#[no_mangle]
+pub extern "C" fn hollupaq_would_answer(
+    account: &[u64],
+    kind: u8,
+    option: u8,
+    day: u32,
+    amount: u64,
+) -> u64
+    ensures { λ r. ⌜ r ≡ answerWord (answerTo (now (account .entry)) (record { kind = kind; option = option; day = day; amount = amount })) ⌝ }
+{
+    let e = Event {
+        kind,
+        option,
+        day,
+        amount,
+    };
+    let answer = account::would_answer(account, e);
+    word_of(answer)
+}
+
+// Posting on account i, from 0, of many that lie one after another; 0 where there is no account i.
 #[no_mangle]
 pub extern "C" fn hollupaq_post_at(
     accounts: &mut [u64],

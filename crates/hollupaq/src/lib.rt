@@ -7,10 +7,23 @@ use bookpost::history;
 use report::report;
 ghost use Rattle.report.specs.Report.{textOf};
 ghost use Rattle.bookpost.specs.History.{Told};
-ghost use Rattle.hollupaq.specs.Library.{Written};
+ghost use mathlib.Core.Path.{_≡_};
+ghost use Rattle.hollupaq.specs.Library.{libraryVersion, Written};
+
+// The version of the library: 10,000 for each change that a program has to be changed for, 100 for each that adds something, 1 for each
+// that only mends. include/hollupaq.h has the same number.
+const VERSION: u64 = 10_000;
 
 // What is answered from here on is accepted, or told: 256 and the value. Below it stands the number that refuses.
 const ACCEPTED: u64 = 256;
+
+// The version, so that a program can hold its header against the library that it runs with.
+#[no_mangle]
+pub extern "C" fn hollupaq_version() -> u64
+    ensures { λ r. ⌜ r ≡ libraryVersion ⌝ }
+{
+    VERSION
+}
 
 // Writes the standing of the book's accounts, as the program `standing` prints it, and says how many bytes that took.
 // Where the output is too short for the text it stays as it was, and the answer is 0. No text is empty.

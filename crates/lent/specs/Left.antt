@@ -5,9 +5,10 @@ use Rattle.rules.specs.declared.Event.{Event}
 use Rattle.rules.specs.declared.Answer.{Answer}
 use Rattle.rules.specs.Accepted.{accepted}
 use Rattle.account.specs.declared.Account.{Account}
+use Rattle.account.specs.State.{freshWords}
 use Rattle.account.specs.Post.{posted}
 use Rattle.claim.specs.Run.{LeftBy}
-use Rattle.claim.specs.Claim.{freshWords, ClaimOf}
+use Rattle.claim.specs.Claim.{ClaimOf}
 
 -- one posting: the account was a, s is the answer to e, and z is the account that is left
 abbrev pub LeavesLent : Account → Event → Answer → Account → Type 0

@@ -1,6 +1,7 @@
 // The standing of every account of a book, as text in lent memory. The accounts are posted in place, record by record.
 mod line;
 
+use account::Account;
 use account::WORDS;
 use account::spans::COLLECTION;
 use account::spans::DEPOSIT;
@@ -142,7 +143,8 @@ fn standing_of(b: &[u8], i: usize) -> Standing
     requires { ⌜ bookRefusal (now b) ≡ 0 ⌝ }
     ensures { λ r. ⌜ Stands r (accountOf (now (b .entry)) i) (accepted (accountOf (now (b .entry)) i)) ⌝ }
 {
-    let mut memory = [0u64; WORDS];
+    let account = Account::fresh();
+    let mut memory = account.memory;
     let refused = run_account(b, i, &mut memory);
     standing_in(&memory, refused)
 }

@@ -36,6 +36,20 @@ fn unequal<T: PartialEq + Debug>(what: &str, expected: T, found: T) -> Option<St
 
 /// Each answer with its number or receipt, and what is owed after it.
 pub fn answers(events: &[Event], posted: &Posted, kept: &Kept) -> Option<String> {
+    let expected = by_peer(events, posted);
+    unequal("answers with what is owed", &expected, &kept.replies)
+}
+
+/// What would be answered, asked before each event: the answer that it then gets, with the account left alone.
+pub fn would(events: &[Event], posted: &Posted, kept: &Kept) -> Option<String> {
+    let expected = by_peer(events, posted).into_iter().map(|reply| reply.0);
+    let expected: Vec<Answer> = expected.collect();
+    let fine = (&expected, true);
+    unequal("what would be answered", fine, (&kept.would, kept.is_fine))
+}
+
+/// The peer's answers, and what is owed after each.
+fn by_peer(events: &[Event], posted: &Posted) -> Vec<(Answer, i64)> {
     let money = Money::of(&posted.accepted);
     let mut accepted = 0;
     let reply = |(event, &number): (&Event, &u8)| {
@@ -49,8 +63,7 @@ pub fn answers(events: &[Event], posted: &Posted, kept: &Kept) -> Option<String>
         };
         (answer, money.owed_after(accepted))
     };
-    let expected: Vec<(Answer, i64)> = events.iter().zip(&posted.answers).map(reply).collect();
-    unequal("answers with what is owed", &expected, &kept.replies)
+    events.iter().zip(&posted.answers).map(reply).collect()
 }
 
 /// What the account tells: owed, deposit, service and open items.
@@ -130,8 +143,9 @@ mod tests {
     use super::*;
     use crate::make::{bill, cut, payment};
 
-    const CHECKS: [(&str, Check); 7] = [
+    const CHECKS: [(&str, Check); 8] = [
         ("answers", answers),
+        ("would", would),
         ("told", told),
         ("days", days),
         ("by value", by_value),
@@ -167,7 +181,11 @@ mod tests {
 
     #[test]
     fn a_wrong_answer_is_seen() {
-        assert_eq!(speak(|posted, _| posted.answers[3] = 13), ["answers"]);
+        let number = |posted: &mut Posted, _: &mut Kept| posted.answers[3] = 13;
+        assert_eq!(speak(number), ["answers", "would"]);
+        let would = |_: &mut Posted, kept: &mut Kept| kept.would[3] = Answer::Accepted(0);
+        assert_eq!(speak(would), ["would"]);
+        assert_eq!(speak(|_, kept| kept.is_fine = false), ["would"]);
         let receipt = |_: &mut Posted, kept: &mut Kept| kept.replies[2].0 = Answer::Accepted(2);
         assert_eq!(speak(receipt), ["answers"]);
         let owed = |_: &mut Posted, kept: &mut Kept| kept.replies[1].1 -= 75;

@@ -3,17 +3,18 @@ use super::days::{self, OnDay};
 use super::posting::Kept;
 use crate::peer::kind::PAYMENT;
 use crate::peer::Posted;
+use tools::core;
 use tools::core::lent::{self, WORDS};
 use tools::event::Event;
 
 /// None, one word too few, one too many.
 const LENGTHS: [usize; 3] = [0, WORDS - 1, WORDS + 1];
 
-/// What the library says of the length of an account, where that is not its length.
+/// What the library says of itself, its version and the words of an account, where that is not what the tools are for.
 pub fn said() -> Vec<String> {
-    let words = lent::words();
-    let differs = words != WORDS as u64;
-    let shown = differs.then(|| format!("  {words} words, not {WORDS}"));
+    let expected = (core::VERSION, WORDS as u64);
+    let found = (core::version(), lent::words());
+    let shown = (found != expected).then(|| format!("  {found:?}, not {expected:?}"));
     shown.into_iter().collect()
 }
 
@@ -21,8 +22,10 @@ pub fn said() -> Vec<String> {
 #[derive(Clone, Debug, PartialEq)]
 struct Outcome {
     memory: Vec<u64>,
+    ok: u8,
     fresh: u8,
     post: u64,
+    would: u64,
     post_at: u64,
     owed: i64,
     told: [u64; 5],
@@ -34,8 +37,10 @@ struct Outcome {
 fn expected(memory: &[u64]) -> Outcome {
     Outcome {
         memory: memory.to_vec(),
+        ok: 0,
         fresh: 0,
         post: 0,
+        would: 0,
         post_at: 0,
         owed: 0,
         told: [0; 5],
@@ -49,6 +54,8 @@ fn found(memory: &[u64], event: Event) -> Outcome {
     let index = memory.len() / WORDS;
     let mut after = memory.to_vec();
     Outcome {
+        ok: lent::ok(memory),
+        would: lent::would_answer(memory, event),
         post: lent::post(&mut after, event),
         post_at: lent::post_at(&mut after, index, event),
         fresh: lent::fresh(&mut after),
@@ -100,6 +107,7 @@ mod tests {
         let memory = account.words();
         let found = found(memory, bill(7, 1));
         assert_eq!((found.post, found.post_at, found.fresh), (256, 0, 1));
+        assert_eq!((found.ok, found.would), (1, 256));
         assert_eq!((found.owed, found.service), (6_000, 0));
         assert_eq!(found.told, [0, 0, 1, 7, 6_000]);
         assert_eq!(found.days[2], (73_048, [256 + 6_000, 256, 256, 256]));
@@ -110,9 +118,11 @@ mod tests {
     fn another_outcome_is_seen() {
         let right = expected(&[7, 8]);
         assert_eq!(difference(&right, &right), None);
-        let wrong: [fn(&mut Outcome); 9] = [
+        let wrong: [fn(&mut Outcome); 11] = [
             |outcome| outcome.memory[1] += 1,
+            |outcome| outcome.ok = 1,
             |outcome| outcome.fresh = 1,
+            |outcome| outcome.would = 256,
             |outcome| outcome.post = 256,
             |outcome| outcome.post_at = 256,
             |outcome| outcome.owed = -1,

@@ -42,6 +42,8 @@ pub enum Asked {
 
 /// What a kept account showed.
 pub struct Kept {
+    /// What would be answered to each event, asked before it was posted.
+    pub would: Vec<Answer>,
     /// The answer to each event, and what was owed after it.
     pub replies: Vec<(Answer, i64)>,
     pub asked: Asked,
@@ -53,6 +55,8 @@ pub struct Kept {
     /// The first refused event that changed the account, counted from 0, and the bytes that it changed.
     pub changed: Option<(usize, Vec<usize>)>,
     pub is_touched_around: bool,
+    /// Whether the account passed its test after each event, and stayed as it was when it was asked what it would answer.
+    pub is_fine: bool,
 }
 
 pub fn keep(events: &[Event], asked: Asked) -> Kept {
@@ -62,6 +66,7 @@ pub fn keep(events: &[Event], asked: Asked) -> Kept {
 fn keep_by(events: &[Event], asked: Asked, post: fn(&mut Surrounded, Event) -> Answer) -> Kept {
     let mut memory = Surrounded::by(Account::fresh());
     let mut kept = Kept {
+        would: Vec::with_capacity(events.len()),
         replies: Vec::with_capacity(events.len()),
         asked,
         told: Vec::new(),
@@ -69,11 +74,15 @@ fn keep_by(events: &[Event], asked: Asked, post: fn(&mut Surrounded, Event) -> A
         account: Account::fresh(),
         changed: None,
         is_touched_around: false,
+        is_fine: memory.account.is_ok(),
     };
     let mut accepted = Vec::new();
     for (at, &event) in events.iter().enumerate() {
         let before = memory.account.clone();
+        kept.would.push(memory.account.would_answer(event));
+        kept.is_fine &= memory.account == before;
         let answer = post(&mut memory, event);
+        kept.is_fine &= memory.account.is_ok();
         let account = &memory.account;
         kept.replies.push((answer, account.owed()));
         match answer {

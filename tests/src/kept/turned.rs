@@ -82,6 +82,7 @@ fn post_on(
     let mut seen = false;
     for &event in events {
         let before = memory.account.clone();
+        let (is_ok, would) = (memory.account.is_ok(), memory.account.would_answer(event));
         let answer = post(&mut memory.account, event);
         // It has to answer; what it tells is laid down only where it is seen to be no account.
         let told = Told::by_account(&memory.account);
@@ -94,7 +95,8 @@ fn post_on(
             Answer::Refused(0) => changed.is_empty() && is_none,
             Answer::Refused(number) => !seen && number <= 19 && changed.is_empty(),
         };
-        if !fine || !memory.is_untouched_around() {
+        let foretold = would == answer && is_ok == (answer != Answer::Refused(0));
+        if !fine || !foretold || !memory.is_untouched_around() {
             let event = show::event(event);
             return Err(format!(
                 "{event}: {answer:?}, changed {changed:?}, {told:?}, {for_days:?}"
@@ -109,6 +111,7 @@ fn post_on(
 mod tests {
     use super::*;
     use crate::make::{bill, call, close, cut, notice, payment};
+    use tools::core::lent::LAYOUT;
 
     /// The one word that an event, posted after others, takes from one number to another.
     fn word(events: &[Event], event: Event, from: u64, to: u64) -> usize {
@@ -162,6 +165,15 @@ mod tests {
             account.post(payment(event.day, 1));
             Answer::Refused(12)
         }));
+    }
+
+    #[test]
+    fn another_layout_is_seen() {
+        assert_eq!(Account::fresh().words()[0], LAYOUT);
+        for bit in 0..64 {
+            assert!(sees(0, 1 << bit), "bit {bit}");
+        }
+        assert!(sees(0, LAYOUT));
     }
 
     #[test]

@@ -65,6 +65,16 @@ impl Account {
         Answer::of(lent::post(&mut self.words, event))
     }
 
+    /// What posting the event would answer, with the account left alone.
+    pub fn would_answer(&self, event: Event) -> Answer {
+        Answer::of(lent::would_answer(&self.words, event))
+    }
+
+    /// Whether the words are an account: false where they are of another version, or were changed so that the core sees it.
+    pub fn is_ok(&self) -> bool {
+        lent::ok(&self.words) == 1
+    }
+
     /// What is owed in cents, negative where there is credit.
     #[inline]
     pub fn owed(&self) -> i64 {
@@ -131,8 +141,8 @@ impl Account {
         &self.words
     }
 
-    /// The account of words that were kept elsewhere, by the same version of the library. Other words do no harm, but what
-    /// is said of them means nothing.
+    /// The account of words that were kept elsewhere. Words of another version are refused ([`Account::is_ok`]); words that the
+    /// core did not leave so do no harm, but what is said of them means nothing.
     pub fn from_words(words: [u64; WORDS]) -> Account {
         Account { words }
     }

@@ -3,7 +3,10 @@
 use crate::event::Event;
 
 /// How many words of 64 bits an account takes. include/hollupaq.h has the same number.
-pub const WORDS: usize = 187;
+pub const WORDS: usize = 188;
+
+/// The number of the layout, with which an account begins.
+pub const LAYOUT: u64 = 1_000_001;
 
 /// An answer from here on is an acceptance, and what is above it the receipt of a payment, or what is told for a day. One below
 /// is a refusal.
@@ -13,8 +16,17 @@ extern "C" {
     // A slice of the core passes as its pointer and its length.
     fn hollupaq_words() -> u64;
     fn hollupaq_fresh(account: *mut u64, words: usize) -> u8;
+    fn hollupaq_ok(account: *const u64, words: usize) -> u8;
     fn hollupaq_post(
         account: *mut u64,
+        words: usize,
+        kind: u8,
+        option: u8,
+        day: u32,
+        amount: u64,
+    ) -> u64;
+    fn hollupaq_would_answer(
+        account: *const u64,
         words: usize,
         kind: u8,
         option: u8,
@@ -56,6 +68,11 @@ pub fn fresh(account: &mut [u64]) -> u8 {
     unsafe { hollupaq_fresh(account.as_mut_ptr(), account.len()) }
 }
 
+/// Whether the memory is an account, 1 or 0.
+pub fn ok(account: &[u64]) -> u8 {
+    unsafe { hollupaq_ok(account.as_ptr(), account.len()) }
+}
+
 /// Posts one event, of any kind and any numbers. A refused event leaves the memory as it was.
 #[inline]
 pub fn post(account: &mut [u64], e: Event) -> u64 {
@@ -63,7 +80,13 @@ pub fn post(account: &mut [u64], e: Event) -> u64 {
     unsafe { hollupaq_post(at, words, e.kind, e.option, e.day, e.amount) }
 }
 
-/// The same on one of many accounts that lie one after another, counted from 0: 0 where there is none.
+/// What [`post`] would answer, with the memory left alone.
+pub fn would_answer(account: &[u64], e: Event) -> u64 {
+    let (at, words) = (account.as_ptr(), account.len());
+    unsafe { hollupaq_would_answer(at, words, e.kind, e.option, e.day, e.amount) }
+}
+
+/// Posting on one of many accounts that lie one after another, counted from 0: 0 where there is none.
 #[inline]
 pub fn post_at(accounts: &mut [u64], index: usize, e: Event) -> u64 {
     let (at, words) = (accounts.as_mut_ptr(), accounts.len());

@@ -7,10 +7,10 @@ use Rattle.report.proofs.standing_of.Tie as tie
 returns : tie.Need-returns
 returns c =
     let r = c .before .before .before in
-    let s = r .before .before .before in
+    let s = r .before .before .before .before .before in
     rw (c .standing-in .ensures) (stands _ (r .run-account .result) (accountOf (s .args .b .now) (s .args .i)) (r .run-account .ensures))
 
 pub standing-of-spec : {M : Type 1} → statement M
 standing-of-spec =
     tie.close
-    (tie.spec (λ c. search needs) (λ c κs. search needs) (λ c. search needs) (λ c κs. search needs) returns)
+    (tie.spec (λ c κs. search needs) (λ c. search needs) (λ c κs. search needs) (λ c. search needs) (λ c κs. search needs) returns)
