@@ -28,7 +28,7 @@ impl Tally {
             return self.check(&name, missing);
         }
         let count = show::count(missing.len());
-        println!("not all of it in a part of a run: {name}, {count} missing");
+        println!("in part: {name}, but for {count}");
     }
 
     /// Prints one check: what it asked, and what spoke against it.
