@@ -133,13 +133,16 @@ impl Accounts {
             group.tell(tally, &format!("kept accounts, {words}"));
         }
         tally.check(
-            "reached: every answer for a day, and both sides of a change",
+            "the library's version and the words of an account",
+            &lengths::said(),
+        );
+        tally.reached(
+            "every answer for a day, and both sides of a change",
             &self.reached.missing(),
         );
-        let missing = self.not_reached();
-        tally.check(
-            "reached: turned bits that the core sees, and some that it can't",
-            &missing,
+        tally.reached(
+            "turned bits that the core sees, and some that it can't",
+            &self.not_reached(),
         );
     }
 

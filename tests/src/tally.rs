@@ -8,9 +8,29 @@ const SHOWN: usize = 3;
 pub struct Tally {
     passed: usize,
     failed: usize,
+    /// Whether this is a part of a run, of which nothing is demanded.
+    part: bool,
 }
 
 impl Tally {
+    /// The tally of a part of a run: what it did not reach is told, and is no check.
+    pub fn of_part() -> Tally {
+        Tally {
+            part: true,
+            ..Tally::default()
+        }
+    }
+
+    /// What a whole run has to reach, and what of it was not.
+    pub fn reached(&mut self, demand: &str, missing: &[String]) {
+        let name = format!("reached: {demand}");
+        if !self.part || missing.is_empty() {
+            return self.check(&name, missing);
+        }
+        let count = show::count(missing.len());
+        println!("in part: {name}, but for {count}");
+    }
+
     /// Prints one check: what it asked, and what spoke against it.
     pub fn check(&mut self, name: &str, against: &[String]) {
         if against.is_empty() {
@@ -79,6 +99,19 @@ mod tests {
         assert_eq!(counts(&tally), (1, 1));
         assert!(!tally.finish());
         assert!(Tally::default().finish());
+    }
+
+    #[test]
+    fn what_is_not_reached_fails_a_whole_run_alone() {
+        let missing = [String::from("an edge")];
+        for (mut tally, expected) in [(Tally::default(), (1, 1)), (Tally::of_part(), (1, 0))] {
+            tally.reached("every edge", &[]);
+            tally.reached("every edge", &missing);
+            assert_eq!(counts(&tally), expected);
+        }
+        let mut part = Tally::of_part();
+        part.check("not fine", &missing);
+        assert_eq!(counts(&part), (0, 1));
     }
 
     #[test]

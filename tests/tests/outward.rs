@@ -1,6 +1,6 @@
 //! What is offered outward stands in one list (docs/ARCHITECTURE.md, "Offered outward"). Here the sources are held against it: each
 //! function of the list is public and asks nothing, no other is public unless a crate above calls it, and the header
-//! declares what the library exports.
+//! declares what the library exports. What it declares is what the comparison on the box's processor calls.
 use std::collections::BTreeSet;
 use std::fs;
 use std::path::{Path, PathBuf};
@@ -125,6 +125,14 @@ fn full_name(f: &Function) -> String {
     format!("{}::{}", f.home, f.name)
 }
 
+/// The functions of the library that a header declares.
+fn declared(header: &str) -> impl Iterator<Item = &str> {
+    let lines = header.lines();
+    lines
+        .filter(|line| line.starts_with("uint") || line.starts_with("int"))
+        .filter_map(|line| line.split('(').next()?.rsplit(' ').next())
+}
+
 #[test]
 fn what_is_offered_is_public_and_asks_nothing() {
     let functions = all();
@@ -168,14 +176,26 @@ fn the_header_declares_what_the_library_exports() {
             "the header has no {name}"
         );
     }
-    let declared = header
-        .lines()
-        .filter(|line| line.starts_with("uint") || line.starts_with("int"))
-        .filter_map(|line| line.split('(').next()?.rsplit(' ').next());
-    for name in declared {
+    for name in declared(&header) {
         assert!(
             exported.iter().any(|e| e == name),
             "the library has no {name}"
         );
     }
+}
+
+#[test]
+fn every_function_of_the_header_is_called_on_the_box() {
+    let header = read(root().join("include/hollupaq.h"));
+    let calls = read(root().join("tests/box/calls.h"));
+    let mut names: Vec<&str> = calls
+        .lines()
+        .filter_map(|line| line.trim_start().strip_prefix("CALL("))
+        .filter_map(|line| line.split(", ").nth(2))
+        .collect();
+    let mut declared: Vec<&str> = declared(&header).collect();
+    names.sort();
+    declared.sort();
+    assert!(declared.len() > 20, "the header was not read: {declared:?}");
+    assert_eq!(names, declared);
 }

@@ -1,7 +1,8 @@
 //! Runs the core, by its static library and as the program `standing`, against the peer.
 //!
-//! `compare [PROGRAM] [--seed N] [--books N]`: the program is target/bin/standing if none is named.
-//! The same seed gives the same books. Fewer than some thousand books do not reach everything that is asked of them.
+//! `compare [PROGRAM] [--seed N] [--books N] [--files N] [--part]`: the program is target/bin/standing if none is named, and
+//! gets so many files. The same seed gives the same books. Fewer than some thousand books do not reach everything that is
+//! asked of them: with `--part`, what they did not reach is told and does not fail.
 use std::env;
 use std::path::{Path, PathBuf};
 use std::process::ExitCode;
@@ -20,17 +21,23 @@ struct Wanted {
     program: PathBuf,
     seed: u64,
     books: u64,
+    files: u64,
+    part: bool,
 }
 
 fn main() -> ExitCode {
     let wanted = match arguments() {
         Ok(wanted) => wanted,
         Err(words) => {
-            eprintln!("{words}\nusage: compare [PROGRAM] [--seed N] [--books N]");
+            let usage = "usage: compare [PROGRAM] [--seed N] [--books N] [--files N] [--part]";
+            eprintln!("{words}\n{usage}");
             return ExitCode::from(2);
         }
     };
-    let mut tally = Tally::default();
+    let mut tally = match wanted.part {
+        true => Tally::of_part(),
+        false => Tally::default(),
+    };
     let mut library = by_library(&wanted);
     let particular = particular_books(&wanted, &mut library.lists);
     library.coverage.print();
@@ -52,6 +59,8 @@ fn arguments() -> Result<Wanted, String> {
         program: PathBuf::from("target/bin/standing"),
         seed: 1,
         books: 24_000,
+        files: 600,
+        part: false,
     };
     let mut words = env::args().skip(1);
     while let Some(word) = words.next() {
@@ -62,6 +71,8 @@ fn arguments() -> Result<Wanted, String> {
         match word.as_str() {
             "--seed" => wanted.seed = number()?,
             "--books" => wanted.books = number()?,
+            "--files" => wanted.files = number()?,
+            "--part" => wanted.part = true,
             _ if word.starts_with('-') => return Err(format!("{word} is not known")),
             _ => wanted.program = PathBuf::from(word),
         }
@@ -147,7 +158,7 @@ impl ByLibrary {
 
     fn tell(&self, tally: &mut Tally) {
         for (demand, missing) in self.coverage.demands() {
-            tally.check(&format!("reached: {demand}"), &missing);
+            tally.reached(&demand, &missing);
         }
         self.good.tell(tally, "books by the library");
         self.damaged.tell(tally, "damaged books by the library");
@@ -188,7 +199,7 @@ fn by_program(wanted: &Wanted, tally: &mut Tally) {
     let program = &wanted.program;
     let (mut whole, mut damaged, mut pieces) =
         (Group::default(), Group::default(), Group::default());
-    for index in 0..600 {
+    for index in 0..wanted.files {
         // Not the books that the library had.
         let book = books::book(!wanted.seed, index);
         let size = [1, 5, 8, 16, 100, 4_096][index as usize % 6];

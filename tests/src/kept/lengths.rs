@@ -3,11 +3,20 @@ use super::days::{self, OnDay};
 use super::posting::Kept;
 use crate::peer::kind::PAYMENT;
 use crate::peer::Posted;
+use tools::core;
 use tools::core::lent::{self, WORDS};
 use tools::event::Event;
 
 /// None, one word too few, one too many.
 const LENGTHS: [usize; 3] = [0, WORDS - 1, WORDS + 1];
+
+/// What the library says of itself, its version and the words of an account, where that is not what the tools are for.
+pub fn said() -> Vec<String> {
+    let expected = (core::VERSION, WORDS as u64);
+    let found = (core::version(), lent::words());
+    let shown = (found != expected).then(|| format!("  {found:?}, not {expected:?}"));
+    shown.into_iter().collect()
+}
 
 /// What memory was left as, and what it answered, as far as numbers go: all of them are 0, but for the service.
 #[derive(Clone, Debug, PartialEq)]
