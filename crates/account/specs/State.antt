@@ -12,15 +12,15 @@ use Rattle.rules.specs.History.{History, finalDay, lastPosted}
 use Rattle.rules.specs.Money.{charges}
 use Rattle.rules.specs.Table.{chargeOf, creditOf}
 use Rattle.collection.specs.declared.Collection.{Collection}
-use Rattle.collection.specs.Collection.{collectionSize, collectionOn, collectionWords, noCollection, serviceBy, liveBy, inDaysBy, calledBy, collectionAfter, collectionOf, collectionOk}
+use Rattle.collection.specs.Collection.{collectionSize, collectionOn, collectionWords, serviceBy, liveBy, inDaysBy, calledBy, collectionAfter, collectionOf, collectionOk}
 use Rattle.deposit.specs.declared.Deposit.{Deposit}
-use Rattle.deposit.specs.Deposit.{depositSize, depositOn, depositWords, noDeposit, earnedBy, depositAfter, depositOf, depositOk, DepositFit}
+use Rattle.deposit.specs.Deposit.{depositSize, depositOn, depositWords, earnedBy, depositAfter, depositOf, depositOk, DepositFit}
 use Rattle.medical.specs.declared.Medical.{Medical}
-use Rattle.medical.specs.Medical.{medicalSize, medicalOn, medicalWords, noMedical, certifiedBy, approvedBy, medicalAfter, medicalOf, medicalOk}
+use Rattle.medical.specs.Medical.{medicalSize, medicalOn, medicalWords, certifiedBy, approvedBy, medicalAfter, medicalOf, medicalOk}
 use Rattle.arrangement.specs.declared.Arrangement.{Arrangement}
-use Rattle.arrangement.specs.Arrangement.{arrangementSize, arrangementOn, arrangementWords, noArrangement, inForceBy, arrangementAfter, arrangementOf, arrangementOk, ArrangementFit}
-use Rattle.receipts.specs.Receipts.{Receipts, receiptsSize, receiptsOn, receiptsWords, noReceipts, paymentBy, receiptsAfter, receiptsOf, receiptsOk, ReceiptsFit}
-use Rattle.ledger.specs.Ledger.{Ledger, ledgerSize, ledgerOn, ledgerWords, noLedger, creditsBy, arrearsBy, ledgerAfter, ledgerOf, ledgerOk, LedgerFit}
+use Rattle.arrangement.specs.Arrangement.{arrangementSize, arrangementOn, arrangementWords, inForceBy, arrangementAfter, arrangementOf, arrangementOk, ArrangementFit}
+use Rattle.receipts.specs.Receipts.{Receipts, receiptsSize, receiptsOn, receiptsWords, paymentBy, receiptsAfter, receiptsOf, receiptsOk, ReceiptsFit}
+use Rattle.ledger.specs.Ledger.{Ledger, ledgerSize, ledgerOn, ledgerWords, creditsBy, arrearsBy, ledgerAfter, ledgerOf, ledgerOk, LedgerFit}
 
 pub record State : Type 0 where
   -- the number of the layout, by which memory of another version is told
@@ -79,21 +79,7 @@ wordsOf s =
     ∷ []
     )
 
--- no events, service on, all sums 0
-abbrev pub fresh : State
-fresh =
-    record {
-      layout = layoutNumber;
-      last = 0;
-      collection = noCollection;
-      deposit = noDeposit;
-      medical = noMedical;
-      arrangement = noArrangement;
-      receipts = noReceipts;
-      ledger = noLedger;
-    }
-
--- its words: the number of the layout, and zeros
+-- a fresh account, no events, service on, all sums 0: the number of the layout, and zeros
 abbrev pub freshWords : List ℕ
 freshWords = layoutNumber ∷ replicate (accountSize - 1) 0
 

@@ -6,6 +6,7 @@ mod rows;
 pub mod spans;
 mod step;
 mod ways;
+mod would;
 
 use rules::Answer;
 use rules::Event;
@@ -15,10 +16,11 @@ use rules::kinds::PAYMENT;
 use spans::LAYOUT;
 use spans::LAYOUT_NUMBER;
 pub use spans::WORDS;
+pub use would::would_answer;
 ghost use mathlib.Core.Path.{_≡_};
 ghost use lib.ListN.{length, replicate};
 ghost use Rattle.account.specs.State.{accountSize, freshWords, Fit, passes as isAccount};
-ghost use Rattle.account.specs.Post.{answerTo, Judges, Leaves, posted};
+ghost use Rattle.account.specs.Post.{Judges, Leaves, posted};
 
 // An account by value.
 pub struct Account {
@@ -94,16 +96,6 @@ pub fn post(m: &mut [u64], e: Event) -> Answer
 {
     if passes(m) {
         return judge(m, e);
-    }
-    Answer::Refused(0)
-}
-
-// The answer that posting the event would give, with the account left alone.
-pub fn would_answer(m: &[u64], e: Event) -> Answer
-    ensures { λ r. ⌜ r ≡ answerTo (now (m .entry)) e ⌝ }
-{
-    if passes(m) {
-        return rows::answer(m, e);
     }
     Answer::Refused(0)
 }

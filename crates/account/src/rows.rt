@@ -2,15 +2,9 @@
 use crate::look;
 use crate::spans::COLLECTION;
 use crate::spans::LAST;
-use crate::spans::LEDGER;
-use crate::spans::RECEIPTS;
-use rules::Answer;
 use rules::Event;
 use rules::View;
-use rules::kinds::PAYMENT;
-ghost use mathlib.Core.Path.{_≡_};
-ghost use Rattle.account.specs.State.{stateOn, Fit};
-ghost use Rattle.account.specs.Post.{receiptAt, answerAt};
+ghost use Rattle.account.specs.State.{Fit};
 ghost use Rattle.account.specs.Looks.{Asked};
 
 // The number of the first row that refuses the event, 0 where none does; what the rows looked at, and what the event charges.
@@ -35,25 +29,4 @@ pub fn ask(m: &[u64], e: Event) -> Rows
         view,
         charge,
     }
-}
-
-// The receipt that the event takes where it is accepted, 0 where it is no payment.
-fn receipt(m: &[u64], e: Event) -> u64
-    requires { ⌜ Fit (now m) ⌝ }
-    ensures { λ r. ⌜ r ≡ receiptAt (stateOn (now (m .entry))) e ⌝ }
-{
-    let n = receipts::count(&m[RECEIPTS..LEDGER]);
-    basics::select64(e.kind == PAYMENT, n + 1, 0)
-}
-
-// What is answered to the event.
-pub fn answer(m: &[u64], e: Event) -> Answer
-    requires { ⌜ Fit (now m) ⌝ }
-    ensures { λ r. ⌜ r ≡ answerAt (stateOn (now (m .entry))) e ⌝ }
-{
-    let r = ask(m, e);
-    if r.number == 0 {
-        return Answer::Accepted(receipt(m, e));
-    }
-    Answer::Refused(r.number)
 }

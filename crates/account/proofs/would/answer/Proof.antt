@@ -2,8 +2,8 @@ use mathlib.Core.Path.{sym, _∙_}
 use Rattle.account.specs.State.{stateOn}
 use Rattle.account.proofs.Exits.{answer-refused, answer-accepted}
 use borrow.Author.Needs.{needs}
-use Rattle.account.proofs.rows.answer.Statement.{statement}
-use Rattle.account.proofs.rows.answer.Tie as tie
+use Rattle.account.proofs.would.answer.Statement.{statement}
+use Rattle.account.proofs.would.answer.Tie as tie
 
 returns : tie.Need-returns
 returns c =

@@ -3,8 +3,8 @@ use mathlib.Core.Bool.{cond}
 use native.Mathlib.Omega.{arith}
 use Rattle.rules.specs.Kinds.{payment}
 use borrow.Author.Needs.{needs}
-use Rattle.account.proofs.rows.receipt.Statement.{statement}
-use Rattle.account.proofs.rows.receipt.Tie as tie
+use Rattle.account.proofs.would.receipt.Statement.{statement}
+use Rattle.account.proofs.would.receipt.Tie as tie
 
 add-select64 : tie.Need-add-select64
 add-select64 c = omega (arith, c .before .before .before .before .pre .fit .receipts-fit .count-le, c .before .count .ensures)

@@ -1,8 +1,8 @@
 use mathlib.Core.Path.{sym, _∙_}
 use Rattle.account.proofs.Exits.{passed-fit, answers-passed, answers-failed}
 use borrow.Author.Needs.{needs}
-use Rattle.account.proofs.would_answer.Statement.{statement}
-use Rattle.account.proofs.would_answer.Tie as tie
+use Rattle.account.proofs.would.would_answer.Statement.{statement}
+use Rattle.account.proofs.would.would_answer.Tie as tie
 
 answer-requires : tie.Need-answer-requires
 answer-requires c κs = passed-fit (c .before .before .before .args .m .now) (sym (c .before .passes .ensures) ∙ c .if1 .taken)
