@@ -116,11 +116,11 @@ module _ (s : State) (e : Event) where
   refusal-rest v h l = ap (λ x. refusalBy x e) l ∙ (refusal-seen (view s e) e ∙ refusal-view h)
 
 -- ---- the rows asked together: the first that refuses, and what is known where none does
-pub asked : (m : List ℕ) (e : Event) → Fit m → (last first : ℕ) (v : View) (charge rest n : ℕ)
+pub rows-asked : (m : List ℕ) (e : Event) → Fit m → (last first : ℕ) (v : View) (charge rest n : ℕ)
     → last ≡ stateOn m .last → first ≡ dayRows last (e .day) (cond (not (inRange e)) 3 0)
     → v ≡ seenOf (view (stateOn m) e) e → charge ≡ min (chargeOf v e) largest → rest ≡ refusalBy v e → n ≡ cond (eqb first 0) rest first
     → Asked m e (record { number = n; view = v; charge = charge })
-asked m e f last first v charge rest n d p w h q r =
+rows-asked m e f last first v charge rest n d p w h q r =
     let s = stateOn m in
     let first-is = p ∙ ap (λ x. dayRows x (e .day) (cond (not (inRange e)) 3 0)) d in
     on-eq first 0

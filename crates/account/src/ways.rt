@@ -92,7 +92,7 @@ fn amount_of(m: &[u64], e: Event) -> u64
 {
     if e.kind == BILL {
         let s = ledger::sums_of(&m[LEDGER..WORDS]);
-        let late = amounts::late_charge(basics::less(s.charged, s.credits));
+        let late = amounts::late_charge(basics::minus_or_zero(s.charged, s.credits));
         return basics::plus(e.amount, late);
     }
     amounts::fee(e.option as u64)

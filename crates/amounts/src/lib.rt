@@ -44,7 +44,10 @@ pub fn charge(v: View, e: Event) -> u64
 {
     let k = e.kind;
     match k {
-        BILL => basics::plus(e.amount, late_charge(basics::less(v.charged, v.credits))),
+        BILL => basics::plus(
+            e.amount,
+            late_charge(basics::minus_or_zero(v.charged, v.credits)),
+        ),
         RETURNED_PAYMENT => basics::plus(v.payment, fee(fee_number(e))),
         FEE | FINAL_NOTICE | RECONNECTION => fee(fee_number(e)),
         _ => 0,

@@ -113,7 +113,7 @@ impl Arrangement {
         let n = self.parts;
         if t < self.day + PART_DAYS * n {
             let q = (self.debt + (n - 1)) / n;
-            let j = basics::less(t, self.day) / PART_DAYS;
+            let j = basics::minus_or_zero(t, self.day) / PART_DAYS;
             basics::lesser(self.debt, q * j) + self.returned <= self.paid
         } else {
             false

@@ -21,7 +21,7 @@ pub fn select64(c: bool, a: u64, b: u64) -> u64
 }
 
 // a less b, and 0 where b is more.
-pub fn less(a: u64, b: u64) -> u64
+pub fn minus_or_zero(a: u64, b: u64) -> u64
     ensures { λ r. ⌜ r ≡ a - b ⌝ }
 {
     if b <= a { a - b } else { 0 }

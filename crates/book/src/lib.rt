@@ -1,16 +1,16 @@
 // Books in lent bytes: tested in one pass, and one record or account at a time found without a copy.
-use layout::LONGEST;
-use layout::MOST_ACCOUNTS;
-use layout::Span;
-use layout::event_at;
-use layout::kind_fine;
+use bookformat::LONGEST;
+use bookformat::MOST_ACCOUNTS;
+use bookformat::Span;
+use bookformat::event_at;
+use bookformat::kind_fine;
 use little::get;
 use rules::Event;
 ghost use mathlib.Core.Path.{_≡_};
 ghost use Prim.Native.Nat.{_+_, _*_, _≤_};
 ghost use lib.ListN.{length};
-ghost use Rattle.layout.specs.Book.{base, recordFine, recordsFine, tableFine, headerFine, bookRefusal};
-ghost use Rattle.layout.specs.Finding.{entries as Entries, room as Room, recordAt, recordOf, spanAt, IsAccount};
+ghost use Rattle.bookformat.specs.Book.{base, recordFine, recordsFine, tableFine, headerFine, bookRefusal};
+ghost use Rattle.bookformat.specs.Finding.{entries as Entries, wholeRecords as Room, recordAt, recordOf, spanAt, IsAccount};
 
 // The record at byte p: its kind, and the two spare bytes.
 fn record_fine(b: &[u8], p: usize) -> bool
@@ -112,7 +112,7 @@ fn room(b: &[u8]) -> u64
         return 0;
     }
     let a = get(b, 0, 4);
-    basics::less(b.len() as u64, 8 + 8 * a) / 16
+    basics::minus_or_zero(b.len() as u64, 8 + 8 * a) / 16
 }
 
 // Record k, counted over all accounts; a record of kind 0 past the end. Of a book that is refused, what lies there.
@@ -143,7 +143,7 @@ pub fn account(b: &[u8], i: usize) -> Span
     let a = get(b, 0, 4);
     let offset = get(b, 8 + 8 * i, 4);
     let count = get(b, 8 + 8 * i + 4, 4) as usize;
-    let first = basics::less(offset, 8 + 8 * a) / 16;
+    let first = basics::minus_or_zero(offset, 8 + 8 * a) / 16;
     Span {
         first: first as usize,
         count: count,

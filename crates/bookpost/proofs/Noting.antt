@@ -18,13 +18,13 @@ use Rattle.rules.specs.Answer.{numberOf}
 use Rattle.rules.specs.Accepted.{Lawful, offered, answersAfter, answersBy}
 use Rattle.rules.proofs.Lawful.{offered-lawful}
 use Rattle.little.proofs.Stores.{sets-front}
-use Rattle.layout.specs.declared.Span.{Span}
-use Rattle.layout.specs.Lent.{after, orElse}
-use Rattle.layout.specs.Book.{records, bookRefusal, flat, decode}
-use Rattle.layout.specs.Finding.{recordOf, accountOf, IsAccount}
-use Rattle.layout.proofs.Found.{flat-length}
+use Rattle.bookformat.specs.declared.Span.{Span}
+use Rattle.bookformat.specs.Lent.{after, orElse}
+use Rattle.bookformat.specs.Book.{records, bookRefusal, flat, decode}
+use Rattle.bookformat.specs.Finding.{recordOf, bookAccount, IsAccount}
+use Rattle.bookformat.proofs.Found.{flat-length}
 use Rattle.account.specs.declared.Posted.{Posted}
-use Rattle.account.specs.State.{wordsOf, freshWords, accountOf as partsOf}
+use Rattle.account.specs.State.{wordsOf, freshWords, bookAccount as partsOf}
 use Rattle.account.specs.Post.{answerTo, wordsAfter}
 use Rattle.questions.specs.Questions.{owedIn}
 use Rattle.claim.specs.Run.{answers}
@@ -32,7 +32,7 @@ use Rattle.questions.proofs.Laws.{laws}
 use Rattle.questions.proofs.Told.{owed-is}
 use Rattle.claim.proofs.Compose.{words-after, fresh-is}
 use Rattle.claim.proofs.Demand.{demand-3}
-use Rattle.bookpost.specs.History.{numbersOf, owedFrom, historyRefusal, Told}
+use Rattle.bookpost.specs.BookHistory.{numbersOf, owedFrom, historyRefusal, ToldHistory}
 use Rattle.bookpost.proofs.Posting.{rest, next-left}
 
 -- what the account owes after each event
@@ -49,13 +49,13 @@ owed-run h (e ∷ es) w =
     ∙ (ap (λ x. x ∷ owedRun (wordsOf (partsOf (offered h e))) es) (owed-is (offered h e) k) ∙ ap (λ l. owed (offered h e) ∷ l) (owed-run (offered h e) es w2))
 
 -- by demand 3, and by its laws for what is owed on the way
-pub numbers-are : (es : List Event) → map numberOf (answers freshWords es) ≡ numbersOf es
-numbers-are es = ap (map numberOf) (demand-3 es .answered)
+pub noted-numbers : (es : List Event) → map numberOf (answers freshWords es) ≡ numbersOf es
+noted-numbers es = ap (map numberOf) (demand-3 es .answered)
 
-pub owed-are : (es : List Event) → owedRun freshWords es ≡ owedFrom [] es
-owed-are es = rw fresh-is (owed-run [] es tt)
+pub noted-owed : (es : List Event) → owedRun freshWords es ≡ owedFrom [] es
+noted-owed es = rw fresh-is (owed-run [] es tt)
 
-pub span-length : (b : List ℕ) (i : ℕ) (s : Span) → bookRefusal b ≡ 0 → IsAccount b i s → s .count ≡ length (accountOf b i)
+pub span-length : (b : List ℕ) (i : ℕ) (s : Span) → bookRefusal b ≡ 0 → IsAccount b i s → s .count ≡ length (bookAccount b i)
 span-length b i s z h =
     let f = flat (decode b) in
     let d : s .count ≤ length (drop (s .first) f) = omega (arith, length-drop (s .first) f, flat-length b z, h .within) in
@@ -74,8 +74,8 @@ length-owed h (e ∷ es) = ap suc (length-owed (offered h e) es)
 
 -- the records before k are noted
 pub record Noting (b : List ℕ) (i : ℕ) (ns₀ : List ℕ) (os₀ : List ℤ) (ns : List ℕ) (os : List ℤ) (k left at : ℕ) (m : List ℕ) : Type 0 where
-  pub numbers : sets ns at (map numberOf (answers m (rest b left k))) ≡ sets ns₀ 0 (map numberOf (answers freshWords (accountOf b i)))
-  pub owing : sets os at (owedRun m (rest b left k)) ≡ sets os₀ 0 (owedRun freshWords (accountOf b i))
+  pub numbers : sets ns at (map numberOf (answers m (rest b left k))) ≡ sets ns₀ 0 (map numberOf (answers freshWords (bookAccount b i)))
+  pub owing : sets os at (owedRun m (rest b left k)) ≡ sets os₀ 0 (owedRun freshWords (bookAccount b i))
   pub within : k + left ≤ records b
   pub small : records b ≤ 268435455
   pub few : at ≤ k
@@ -86,7 +86,7 @@ pub record Noting (b : List ℕ) (i : ℕ) (ns₀ : List ℕ) (os₀ : List ℤ)
 
 module _ (b : List ℕ) (i : ℕ) (ns₀ : List ℕ) (os₀ : List ℤ) where
   pub note-begin : (s : Span) (m : List ℕ) → bookRefusal b ≡ 0 → IsAccount b i s → m ≡ freshWords
-      → length (accountOf b i) ≤ length ns₀ → length (accountOf b i) ≤ length os₀ → Noting b i ns₀ os₀ ns₀ os₀ (s .first) (s .count) 0 m
+      → length (bookAccount b i) ≤ length ns₀ → length (bookAccount b i) ≤ length os₀ → Noting b i ns₀ os₀ ns₀ os₀ (s .first) (s .count) 0 m
   note-begin s m z h e n o =
       let c = span-length b i s z h in
       record {
@@ -125,11 +125,11 @@ module _ (b : List ℕ) (i : ℕ) (ns₀ : List ℕ) (os₀ : List ℤ) where
           owed-same-length = length-set os at y ∙ t .owed-same-length;
         }
 
-    pub note-end : left ≡ 0 → (ns ≡ sets ns₀ 0 (numbersOf (accountOf b i))) × (os ≡ sets os₀ 0 (owedFrom [] (accountOf b i)))
+    pub note-end : left ≡ 0 → (ns ≡ sets ns₀ 0 (numbersOf (bookAccount b i))) × (os ≡ sets os₀ 0 (owedFrom [] (bookAccount b i)))
     note-end z =
         let w : rest b left k ≡ [] = ap (λ n. rest b n k) z in (
-          sym (ap (λ l. sets ns at (map numberOf (answers m l))) w) ∙ (t .numbers ∙ ap (sets ns₀ 0) (numbers-are (accountOf b i))),
-          sym (ap (λ l. sets os at (owedRun m l)) w) ∙ (t .owing ∙ ap (sets os₀ 0) (owed-are (accountOf b i))),
+          sym (ap (λ l. sets ns at (map numberOf (answers m l))) w) ∙ (t .numbers ∙ ap (sets ns₀ 0) (noted-numbers (bookAccount b i))),
+          sym (ap (λ l. sets os at (owedRun m l)) w) ∙ (t .owing ∙ ap (sets os₀ 0) (noted-owed (bookAccount b i))),
         )
 
 -- ---- the whole, where no number refuses
@@ -142,9 +142,9 @@ or-none zero x h = (refl, h)
 or-none (suc n) x h = absurd (omega (arith, h))
 
 module _ (b : List ℕ) (i : ℕ) (ns : List ℕ) (os : List ℤ) (z : historyRefusal b i (length ns) (length os) ≡ 0) where
-  pub history-room : (bookRefusal b ≡ 0) × (length (accountOf b i) ≤ length ns) × (length (accountOf b i) ≤ length os)
+  pub history-room : (bookRefusal b ≡ 0) × (length (bookAccount b i) ≤ length ns) × (length (bookAccount b i) ≤ length os)
   history-room =
-      let n = length (accountOf b i) in
+      let n = length (bookAccount b i) in
       let r = or-none (bookRefusal b) (cond (leb n (length ns) && leb n (length os)) 0 22) z in
       let t : (leb n (length ns) && leb n (length os)) ≡ true = on (leb n (length ns) && leb n (length os)) (λ q. q) (λ q. absurd (omega (arith, rw q at (r .1)))) in (
         r .0,
@@ -152,9 +152,9 @@ module _ (b : List ℕ) (i : ℕ) (ns : List ℕ) (os : List ℤ) (z : historyRe
         leb-true n (length os) (and-right (leb n (length ns)) (leb n (length os)) t),
       )
 
-  pub history-told : (ns2 : List ℕ) (os2 : List ℤ) → ns2 ≡ sets ns 0 (numbersOf (accountOf b i)) → os2 ≡ sets os 0 (owedFrom [] (accountOf b i)) → Told b i ns ns2 os os2 0
+  pub history-told : (ns2 : List ℕ) (os2 : List ℤ) → ns2 ≡ sets ns 0 (numbersOf (bookAccount b i)) → os2 ≡ sets os 0 (owedFrom [] (bookAccount b i)) → ToldHistory b i ns ns2 os os2 0
   history-told ns2 os2 p q =
-      let es = accountOf b i in
+      let es = bookAccount b i in
       record {
         answer = sym z;
         numbers = p ∙ (sets-front (numbersOf es) ns (omega (arith, length-numbers es, history-room .1)) ∙ sym (ap (λ n. after n (numbersOf es) ns) z));

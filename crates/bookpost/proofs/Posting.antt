@@ -7,10 +7,10 @@ use native.Mathlib.Omega.{arith}
 use lib.ListN.{length, take, drop}
 use Rattle.rules.specs.declared.Event.{Event}
 use Rattle.rules.specs.declared.Answer.{Answer}
-use Rattle.layout.specs.declared.Span.{Span}
-use Rattle.layout.specs.Book.{records, bookRefusal, flat, decode}
-use Rattle.layout.specs.Finding.{recordOf, accountOf, IsAccount}
-use Rattle.layout.proofs.Found.{walk-step}
+use Rattle.bookformat.specs.declared.Span.{Span}
+use Rattle.bookformat.specs.Book.{records, bookRefusal, flat, decode}
+use Rattle.bookformat.specs.Finding.{recordOf, bookAccount, IsAccount}
+use Rattle.bookformat.proofs.Found.{walk-step}
 use Rattle.account.specs.State.{freshWords, Fit}
 use Rattle.account.specs.Post.{Judges}
 use Rattle.claim.specs.Claim.{accepts, Ran}
@@ -25,14 +25,14 @@ next-left b left k z h w = let m : left ≡ suc (left - 1) = omega arith in ap (
 
 pub record Turning (b : List ℕ) (i k left : ℕ) (m : List ℕ) (r : ℕ) : Type 0 where
   pub past : List Event
-  pub parted : past ++ rest b left k ≡ accountOf b i
+  pub parted : past ++ rest b left k ≡ bookAccount b i
   pub walked : Walked past m r
   pub within : k + left ≤ records b
   pub few : r ≤ k
   pub small : records b ≤ 268435455
 
-pub start : (b : List ℕ) (i : ℕ) (s : Span) (m : List ℕ) → IsAccount b i s → m ≡ freshWords → Turning b i (s .first) (s .count) m 0
-start b i s m h e = record { past = []; parted = h .events; walked = begin m e; within = h .within; few = omega arith; small = h .small }
+pub turning-begun : (b : List ℕ) (i : ℕ) (s : Span) (m : List ℕ) → IsAccount b i s → m ≡ freshWords → Turning b i (s .first) (s .count) m 0
+turning-begun b i s m h e = record { past = []; parted = h .events; walked = begin m e; within = h .within; few = omega arith; small = h .small }
 
 module _ (b : List ℕ) (i k left : ℕ) (m : List ℕ) (r : ℕ) (t : Turning b i k left m r) where
   pub fit : Fit m
@@ -51,7 +51,7 @@ module _ (b : List ℕ) (i k left : ℕ) (m : List ℕ) (r : ℕ) (t : Turning b
         small = t .small;
       }
 
-  pub finish : left ≡ 0 → Ran m r (accountOf b i)
+  pub finish : left ≡ 0 → Ran m r (bookAccount b i)
   finish z =
-      let w : t .past ≡ accountOf b i = sym (append-nil (t .past)) ∙ (sym (ap (λ n. t .past ++ rest b n k) z) ∙ t .parted) in
+      let w : t .past ≡ bookAccount b i = sym (append-nil (t .past)) ∙ (sym (ap (λ n. t .past ++ rest b n k) z) ∙ t .parted) in
       rw w at (ran (t .past) m r (t .walked))

@@ -1,1 +1,1 @@
-pub mod History
+pub mod BookHistory

@@ -1,8 +1,8 @@
 // An account of a book, posted in place: its records are found one after another, and nothing is copied out of the book.
 use account::Account;
 use account::judge;
-use layout::Outcome;
-use layout::event_at;
+use bookformat::Outcome;
+use bookformat::event_at;
 use lent::post_through;
 use little::get;
 use rules::Answer;
@@ -12,12 +12,12 @@ ghost use mathlib.Core.List.{[]};
 ghost use Prim.Native.Nat.{_≤_};
 ghost use lib.ListN.{length};
 ghost use lib.Seq.{sets};
-ghost use Rattle.layout.specs.Book.{bookRefusal};
-ghost use Rattle.layout.specs.Answers.{numberOf, outcomeOf};
-ghost use Rattle.layout.specs.Finding.{accountOf};
+ghost use Rattle.bookformat.specs.Book.{bookRefusal};
+ghost use Rattle.bookformat.specs.Answers.{outcomeNumber, outcomeOf};
+ghost use Rattle.bookformat.specs.Finding.{bookAccount};
 ghost use Rattle.account.specs.State.{freshWords};
 ghost use Rattle.claim.specs.Claim.{accepts, Ran};
-ghost use Rattle.bookpost.specs.History.{numbersOf, owedFrom, historyRefusal, Told};
+ghost use Rattle.bookpost.specs.BookHistory.{numbersOf, owedFrom, historyRefusal, ToldHistory};
 
 // 1 for a refusal.
 fn refusals(a: Answer) -> u64
@@ -33,7 +33,7 @@ fn refusals(a: Answer) -> u64
 // refused.
 pub fn run_account(b: &[u8], i: usize, m: &mut [u64]) -> u64
     requires { ⌜ (bookRefusal (now b) ≡ 0) × (now m ≡ freshWords) ⌝ }
-    ensures { λ r. ⌜ Ran (now (m .exit)) r (accountOf (now (b .entry)) i) ⌝ }
+    ensures { λ r. ⌜ Ran (now (m .exit)) r (bookAccount (now (b .entry)) i) ⌝ }
 {
     let s = book::account(b, i);
     let start = 8 + 8 * (get(b, 0, 4) as usize);
@@ -52,8 +52,8 @@ pub fn run_account(b: &[u8], i: usize, m: &mut [u64]) -> u64
 
 // Notes the answer to each record of account i and what is owed after it, from the start of both slices on.
 fn note_account(b: &[u8], i: usize, numbers: &mut [u8], owed: &mut [i64])
-    requires { ⌜ (bookRefusal (now b) ≡ 0) × (length (accountOf (now b) i) ≤ length (now numbers)) × (length (accountOf (now b) i) ≤ length (now owed)) ⌝ }
-    ensures { λ _. ⌜ (now (numbers .exit) ≡ sets (now (numbers .entry)) 0 (numbersOf (accountOf (now (b .entry)) i))) × (now (owed .exit) ≡ sets (now (owed .entry)) 0 (owedFrom [] (accountOf (now (b .entry)) i))) ⌝ }
+    requires { ⌜ (bookRefusal (now b) ≡ 0) × (length (bookAccount (now b) i) ≤ length (now numbers)) × (length (bookAccount (now b) i) ≤ length (now owed)) ⌝ }
+    ensures { λ _. ⌜ (now (numbers .exit) ≡ sets (now (numbers .entry)) 0 (numbersOf (bookAccount (now (b .entry)) i))) × (now (owed .exit) ≡ sets (now (owed .entry)) 0 (owedFrom [] (bookAccount (now (b .entry)) i))) ⌝ }
 {
     let s = book::account(b, i);
     let mut k = s.first;
@@ -89,8 +89,8 @@ fn history_refusal(b: &[u8], i: usize, n: usize, m: usize) -> u8
 // The history of account i: the number of the answer to each record, 0 for accepted, and what is owed after it. An account
 // past the last has no records. A slice longer than the history keeps its tail; a refusal changes nothing.
 pub fn history(b: &[u8], i: usize, numbers: &mut [u8], owed: &mut [i64]) -> Outcome
-    ensures { λ r. ⌜ Told (now (b .entry)) i (now (numbers .entry)) (now (numbers .exit)) (now (owed .entry)) (now (owed .exit)) (numberOf r) ⌝ }
-    ensures { λ r. ⌜ r ≡ outcomeOf (numberOf r) ⌝ }
+    ensures { λ r. ⌜ ToldHistory (now (b .entry)) i (now (numbers .entry)) (now (numbers .exit)) (now (owed .entry)) (now (owed .exit)) (outcomeNumber r) ⌝ }
+    ensures { λ r. ⌜ r ≡ outcomeOf (outcomeNumber r) ⌝ }
 {
     let n = history_refusal(b, i, numbers.len(), owed.len());
     if n != 0 {

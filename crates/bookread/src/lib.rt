@@ -1,17 +1,17 @@
 // The account list of a book read into lent memory: how many records each account has into counts, the records of all
 // accounts, one after another, into a slice for each field. The book is tested first; then one pass reads it.
 use book::book_refusal;
-use layout::Outcome;
-use layout::event_at;
+use bookformat::Outcome;
+use bookformat::event_at;
 use little::get;
 ghost use mathlib.Core.Path.{_≡_};
 ghost use Prim.Native.Nat.{_+_, _*_, _≤_};
 ghost use lib.ListN.{length};
 ghost use lib.Seq.{sets};
-ghost use Rattle.layout.specs.Book.{base, eventsAt, countsAt, decode};
-ghost use Rattle.layout.specs.Lent.{kindsOf, optionsOf, daysOf, amountsOf, readRefusal, Left, Gave};
-ghost use Rattle.layout.specs.Facts.{Fits};
-ghost use Rattle.layout.specs.Answers.{numberOf, outcomeOf};
+ghost use Rattle.bookformat.specs.Book.{base, eventsAt, countsAt, decode};
+ghost use Rattle.bookformat.specs.Lent.{kindsOf, optionsOf, daysOf, amountsOf, readRefusal, Left, Gave};
+ghost use Rattle.bookformat.specs.Facts.{Fits};
+ghost use Rattle.bookformat.specs.Answers.{outcomeNumber, outcomeOf};
 
 // 0, or the number of the refusal, for memory of these lengths.
 fn read_refusal(b: &[u8], lc: usize, lk: usize, lo: usize, ld: usize, lm: usize) -> u8
@@ -104,8 +104,8 @@ pub fn read(
     days: &mut [u32],
     amounts: &mut [u64],
 ) -> Outcome
-    ensures { λ r. ⌜ Gave (now (b .entry)) (now (counts .entry)) (now (kinds .entry)) (now (options .entry)) (now (days .entry)) (now (amounts .entry)) (now (counts .exit)) (now (kinds .exit)) (now (options .exit)) (now (days .exit)) (now (amounts .exit)) (numberOf r) ⌝ }
-    ensures { λ r. ⌜ r ≡ outcomeOf (numberOf r) ⌝ }
+    ensures { λ r. ⌜ Gave (now (b .entry)) (now (counts .entry)) (now (kinds .entry)) (now (options .entry)) (now (days .entry)) (now (amounts .entry)) (now (counts .exit)) (now (kinds .exit)) (now (options .exit)) (now (days .exit)) (now (amounts .exit)) (outcomeNumber r) ⌝ }
+    ensures { λ r. ⌜ r ≡ outcomeOf (outcomeNumber r) ⌝ }
 {
     let n = read_refusal(
         b,

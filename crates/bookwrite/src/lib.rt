@@ -1,9 +1,9 @@
 // Books written from lent memory: how many records each account has in counts, the records of all accounts, one after
 // another, in a slice for each field. All is tested before the first byte is stored; then one pass stores the book.
-use layout::LONGEST;
-use layout::MOST_ACCOUNTS;
-use layout::Outcome;
-use layout::kind_fine;
+use bookformat::LONGEST;
+use bookformat::MOST_ACCOUNTS;
+use bookformat::Outcome;
+use bookformat::kind_fine;
 use little::put;
 use rules::Event;
 ghost use mathlib.Core.Path.{_≡_};
@@ -12,10 +12,10 @@ ghost use Prim.Native.Nat.{_+_, _*_, _<_, _≤_};
 ghost use lib.ListN.{length};
 ghost use lib.Seq.{sets};
 ghost use Rattle.little.specs.Little.{le};
-ghost use Rattle.layout.specs.Book.{base, recordBytes, body, table, bookOf};
-ghost use Rattle.layout.specs.Lent.{lent, total, sizesFine, kindsFine, writeRefusal, Wrote};
-ghost use Rattle.layout.specs.Facts.{Room};
-ghost use Rattle.layout.specs.Answers.{numberOf, outcomeOf};
+ghost use Rattle.bookformat.specs.Book.{base, recordBytes, body, accountTable, bookOf};
+ghost use Rattle.bookformat.specs.Lent.{lent, countsTotal, sizesFine, kindsFine, writeRefusal, WroteBook};
+ghost use Rattle.bookformat.specs.Facts.{WriteRoom};
+ghost use Rattle.bookformat.specs.Answers.{outcomeNumber, outcomeOf};
 
 fn wide32(x: u32) -> u64
     ensures { λ r. ⌜ (r ≡ x) × (r < 4294967296) ⌝ }
@@ -26,7 +26,7 @@ fn wide32(x: u32) -> u64
 // The sum of at most 1,024 counts, which can't wrap.
 fn sum(counts: &[u32]) -> u64
     requires { ⌜ length (now counts) ≤ 1024 ⌝ }
-    ensures { λ r. ⌜ r ≡ total (now (counts .entry)) ⌝ }
+    ensures { λ r. ⌜ r ≡ countsTotal (now (counts .entry)) ⌝ }
 {
     let mut s: u64 = 0;
     let mut i = 0;
@@ -105,7 +105,7 @@ fn put_entry(out: &mut [u8], p: usize, first: u64, n: u64)
 // The table of the counts, from byte 8 on.
 fn put_table(counts: &[u32], out: &mut [u8])
     requires { ⌜ (length (now counts) ≤ 1024) × (base (length (now counts)) ≤ length (now out)) ⌝ }
-    ensures { λ _. ⌜ now (out .exit) ≡ sets (now (out .entry)) 8 (table (base (length (now (counts .entry)))) (now (counts .entry))) ⌝ }
+    ensures { λ _. ⌜ now (out .exit) ≡ sets (now (out .entry)) 8 (accountTable (base (length (now (counts .entry)))) (now (counts .entry))) ⌝ }
 {
     let mut first = 8 + 8 * (counts.len() as u64);
     let mut at = 8;
@@ -177,7 +177,7 @@ fn put_book(
     amounts: &[u64],
     out: &mut [u8],
 )
-    requires { ⌜ Room (now counts) (now kinds) (now options) (now days) (now amounts) (length (now out)) ⌝ }
+    requires { ⌜ WriteRoom (now counts) (now kinds) (now options) (now days) (now amounts) (length (now out)) ⌝ }
     ensures { λ _. ⌜ now (out .exit) ≡ sets (now (out .entry)) 0 (bookOf (now (counts .entry)) (lent (length (now (kinds .entry))) 0 (now (kinds .entry)) (now (options .entry)) (now (days .entry)) (now (amounts .entry)))) ⌝ }
 {
     put_entry(out, 0, counts.len() as u64, kinds.len() as u64);
@@ -194,8 +194,8 @@ pub fn write(
     amounts: &[u64],
     out: &mut [u8],
 ) -> Outcome
-    ensures { λ r. ⌜ Wrote (now (counts .entry)) (now (kinds .entry)) (now (options .entry)) (now (days .entry)) (now (amounts .entry)) (now (out .entry)) (now (out .exit)) (numberOf r) ⌝ }
-    ensures { λ r. ⌜ r ≡ outcomeOf (numberOf r) ⌝ }
+    ensures { λ r. ⌜ WroteBook (now (counts .entry)) (now (kinds .entry)) (now (options .entry)) (now (days .entry)) (now (amounts .entry)) (now (out .entry)) (now (out .exit)) (outcomeNumber r) ⌝ }
+    ensures { λ r. ⌜ r ≡ outcomeOf (outcomeNumber r) ⌝ }
 {
     let n = write_refusal(counts, kinds, options, days, amounts, out.len());
     if n != 0 {

@@ -13,12 +13,12 @@ use Rattle.account.specs.Post.{answerTo, wordsAfter}
 use Rattle.account.specs.Many.{accountAt}
 use Rattle.account.proofs.Others.{stays-long, this-account, other-account}
 use Rattle.claim.specs.Run.{run, answers}
-use Rattle.claim.specs.Many.{Posting, eventsAt, answersAt, LeftAt, ManyClaim}
+use Rattle.claim.specs.Many.{Posting, eventsFor, answersFor, LeftAt, ManyClaim}
 use Rattle.claim.proofs.Demand.{demand-3}
 
 -- account i after a list of postings is what the events for it alone make of it
 each : (n : ℕ) (all : List ℕ) (ps : List Posting) (said : List Answer) (z : List ℕ) (i : ℕ) → length all ≡ n * accountSize → i < n → LeftAt all ps said z
-    → (accountAt i z ≡ run (accountAt i all) (eventsAt i ps)) × (answersAt i ps said ≡ answers (accountAt i all) (eventsAt i ps))
+    → (accountAt i z ≡ run (accountAt i all) (eventsFor i ps)) × (answersFor i ps said ≡ answers (accountAt i all) (eventsFor i ps))
 each n all [] [] z i l h t = (ap (accountAt i) t, refl)
 each n all [] (s ∷ said) z i l h t = absurd t
 each n all (p ∷ ps) [] z i l h t = absurd t
@@ -31,10 +31,10 @@ each n all (p ∷ ps) (s ∷ said) z i l h t =
     let u = this-account (p .index) all (p .event) s b (omega arith) v in
     let w : accountAt i b ≡ wordsAfter (accountAt i all) (p .event) = rw e at (u .1) in
     let a : s ≡ answerTo (accountAt i all) (p .event) = rw e at (u .0) in
-    rw q (r .0 ∙ ap (λ m. run m (eventsAt i ps)) w, rw (a, r .1, w)))
+    rw q (r .0 ∙ ap (λ m. run m (eventsFor i ps)) w, rw (a, r .1, w)))
     (λ q e.
     let w = other-account (p .index) i all (p .event) s b e v in
-    rw q (r .0 ∙ ap (λ m. run m (eventsAt i ps)) w, r .1 ∙ ap (λ m. answers m (eventsAt i ps)) w))
+    rw q (r .0 ∙ ap (λ m. run m (eventsFor i ps)) w, r .1 ∙ ap (λ m. answers m (eventsFor i ps)) w))
 
 -- ---- n fresh accounts, one after another
 fresh-size : length freshWords ≡ accountSize
@@ -58,4 +58,4 @@ pub demand-3-many : (n : ℕ) (ps : List Posting) (said : List Answer) (z : List
 demand-3-many n ps said z t i h =
     let r = each n (joined (replicate n freshWords)) ps said z i (begun-size n) h t in
     let f = fresh-at n i h in
-    rw (r .0, r .1, f) (demand-3 (eventsAt i ps))
+    rw (r .0, r .1, f) (demand-3 (eventsFor i ps))

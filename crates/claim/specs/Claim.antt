@@ -21,7 +21,7 @@ use Rattle.rules.specs.Notice.{noticeLive}
 use Rattle.rules.specs.Medical.{certified}
 use Rattle.rules.specs.Arrangement.{inForce}
 use Rattle.rules.specs.Sums.{lateCharges, feesCharged, returnedPayments}
-use Rattle.rules.specs.Accepted.{dayRefusal, accepted, answersBy, refusalsAfter, receiptsAfter, answer, cutOn, mayCut}
+use Rattle.rules.specs.Accepted.{dayRefusal, accepted, answersBy, refusalsAfter, receiptsGiven, answer, cutOn, mayCut}
 use Rattle.account.specs.State.{wordsOf, freshWords, accountOf, passes}
 use Rattle.account.specs.Post.{answerTo, Leaves}
 use Rattle.questions.specs.Questions.{owedIn, heldIn, requiredIn, serviceIn, openIn, countIn, arrearsOn, inForceOn, noticeLiveOn, certifiedOn, Tells, Says}
@@ -44,7 +44,7 @@ pub record ClaimOf (m : List ℕ) (said : List Answer) (es : List Event) (h : Hi
   pub answered : said ≡ answersBy es
   -- in document 01's numbers: that of the first row that refuses, 0 for accepted; the receipt, 0 for none
   pub numbered : map numberOf said ≡ refusalsAfter [] es
-  pub receipted : map receiptOf said ≡ receiptsAfter [] es
+  pub receipted : map receiptOf said ≡ receiptsGiven [] es
   -- every event is refused or among the accepted
   pub refused : refusedIn said + length h ≡ length es
   -- owed is C − P of the accepted events

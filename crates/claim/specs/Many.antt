@@ -19,14 +19,14 @@ pub record Posting : Type 0 where
   pub event : Event
 
 -- of a list of postings, the events for account i, and the answers to them
-abbrev pub eventsAt : ℕ → List Posting → List Event
-eventsAt i [] = []
-eventsAt i (p ∷ ps) = cond (eqb (p .index) i) (p .event ∷ eventsAt i ps) (eventsAt i ps)
+abbrev pub eventsFor : ℕ → List Posting → List Event
+eventsFor i [] = []
+eventsFor i (p ∷ ps) = cond (eqb (p .index) i) (p .event ∷ eventsFor i ps) (eventsFor i ps)
 
-abbrev pub answersAt : ℕ → List Posting → List Answer → List Answer
-answersAt i [] said = []
-answersAt i (p ∷ ps) [] = []
-answersAt i (p ∷ ps) (s ∷ said) = cond (eqb (p .index) i) (s ∷ answersAt i ps said) (answersAt i ps said)
+abbrev pub answersFor : ℕ → List Posting → List Answer → List Answer
+answersFor i [] said = []
+answersFor i (p ∷ ps) [] = []
+answersFor i (p ∷ ps) (s ∷ said) = cond (eqb (p .index) i) (s ∷ answersFor i ps said) (answersFor i ps said)
 
 -- the memory was all, said are the answers to ps, and z is what the last posting left
 abbrev pub LeftAt : List ℕ → List Posting → List Answer → List ℕ → Type 0
@@ -39,4 +39,4 @@ LeftAt all (p ∷ ps) (s ∷ said) z = (b : List ℕ) × (LeavesAt (p .index) al
 abbrev pub ManyClaim : ℕ → List Posting → List Answer → List ℕ → Type 0
 ManyClaim n ps said z =
     LeftAt (joined (replicate n freshWords)) ps said z
-    → (i : ℕ) → i < n → ClaimOf (accountAt i z) (answersAt i ps said) (eventsAt i ps) (accepted (eventsAt i ps))
+    → (i : ℕ) → i < n → ClaimOf (accountAt i z) (answersFor i ps said) (eventsFor i ps) (accepted (eventsFor i ps))

@@ -36,11 +36,11 @@ or-twice true b = refl
 or-twice false b = refl
 
 -- what is kept is in order, and not past the last day
-pub record Kept (c : Calls) (day : ℕ) : Type 0 where
+pub record CallsKept (c : Calls) (day : ℕ) : Type 0 where
   pub newest : c .last ≤ day + 1
   pub older : c .earlier ≤ c .last - 1
 
-kept-after : (c : Calls) (e : Event) (day : ℕ) → day ≤ e .day → Kept c day → Kept (callsAfter c e) (e .day)
+kept-after : (c : Calls) (e : Event) (day : ℕ) → day ≤ e .day → CallsKept c day → CallsKept (callsAfter c e) (e .day)
 kept-after c e day l k =
     on (is call e)
     (λ q. on-eq (c .last) (e .day + 1)
@@ -48,13 +48,13 @@ kept-after c e day l k =
     (λ s z. record { newest = simp q (omega arith); older = simp (q, s) (omega arith) }))
     (λ q. record { newest = simp q (omega arith); older = simp q (omega arith) })
 
-pub kept : (h : History) → Sorted h → Kept (collectionOf h .calls) (lastPosted h)
+pub calls-kept : (h : History) → Sorted h → CallsKept (collectionOf h .calls) (lastPosted h)
 unfolding collectionOf
-kept [] s = record { newest = omega arith; older = omega arith }
-kept (e ∷ h) s = kept-after (collectionOf h .calls) e (lastPosted h) (s .0) (kept h (s .1))
+calls-kept [] s = record { newest = omega arith; older = omega arith }
+calls-kept (e ∷ h) s = kept-after (collectionOf h .calls) e (lastPosted h) (s .0) (calls-kept h (s .1))
 
 -- one event, without lists
-step : (c : Calls) (e : Event) (day t : ℕ) → Kept c day → day ≤ e .day → e .day ≤ t
+step : (c : Calls) (e : Event) (day t : ℕ) → CallsKept c day → day ≤ e .day → e .day ≤ t
     → calledBy (callsAfter c e) t ≡ ((is call e && within (e .day + 1) (e .day + 3) t) || calledBy c t)
 step c e day t k d l =
     on (is call e)
@@ -73,4 +73,4 @@ pub called-is : (h : History) (t : ℕ) → Sorted h → lastPosted h ≤ t → 
 unfolding recentBy collectionOf
 called-is [] t s l = refl
 called-is (e ∷ h) t s l =
-    cc (step (collectionOf h .calls) e (lastPosted h) t (kept h (s .1)) (s .0) l, called-is h t (s .1) (omega arith))
+    cc (step (collectionOf h .calls) e (lastPosted h) t (calls-kept h (s .1)) (s .0) l, called-is h t (s .1) (omega arith))

@@ -16,7 +16,7 @@ use Rattle.rules.specs.Notice.{enough, noticeLive, noticeInDays, called}
 use Rattle.rules.specs.Accepted.{Lawful}
 use Rattle.rules.proofs.Bounds.{sorted, in-days}
 use Rattle.collection.specs.Collection.{serviceBy, liveBy, inDaysBy, calledBy, collectionOf, collectionOk}
-use Rattle.collection.proofs.CallDays.{kept, called-is}
+use Rattle.collection.proofs.CallDays.{calls-kept, called-is}
 use Rattle.collection.proofs.NewestNotice.{mark-in, alone, day-past, surviving-is}
 
 -- one event, without lists: off, on, closed, or as before
@@ -57,7 +57,7 @@ pub record CollectionLaw (h : History) : Type 0 where
 pub collection-law : (h : History) → Lawful h → CollectionLaw h
 collection-law h w =
     let s = sorted h w in
-    let k = kept h s in
+    let k = calls-kept h s in
     let d = in-days h w in
     record {
       service-is = service-is h;

@@ -25,8 +25,8 @@ serviceNumber Closed = 2
 abbrev pub serviceBy : ℕ → Service
 serviceBy n = cond (eqb n 0) On (cond (eqb n 1) Off Closed)
 
-abbrev pub serviceAfter : ℕ → Event → ℕ
-serviceAfter n e =
+abbrev pub servedAfter : ℕ → Event → ℕ
+servedAfter n e =
     cond (is disconnection e) (serviceNumber Off)
     (cond (is reconnection e) (serviceNumber On)
     (cond (is closing e) (serviceNumber Closed) n))
@@ -73,7 +73,7 @@ noCollection = record { service = serviceNumber On; notice = noNotice; calls = n
 
 abbrev pub collectionAfter : Collection → Event → ℕ → Collection
 collectionAfter c e owing =
-    record { service = serviceAfter (c .service) e; notice = noticeAfter (c .notice) e owing; calls = callsAfter (c .calls) e }
+    record { service = servedAfter (c .service) e; notice = noticeAfter (c .notice) e owing; calls = callsAfter (c .calls) e }
 
 -- there is a notice after e that low arrears would make lapse
 abbrev pub watched : Collection → Event → Bool

@@ -16,7 +16,7 @@ ghost use lib.Dec.{eqb};
 ghost use lib.ListN.{length};
 ghost use Rattle.rules.specs.declared.Service.{Service as ServiceT};
 ghost use Rattle.rules.specs.History.{within as Within};
-ghost use Rattle.collection.specs.Collection.{serviceBy, serviceAfter, noticeAfter, liveBy, inDaysBy, callsAfter, recentBy, calledBy, collectionAfter, watched, lapsedBy, collectionOk, collectionSize, collectionOn};
+ghost use Rattle.collection.specs.Collection.{serviceBy, servedAfter, noticeAfter, liveBy, inDaysBy, callsAfter, recentBy, calledBy, collectionAfter, watched, lapsedBy, collectionOk, collectionSize, collectionOn};
 
 pub const WORDS: usize = 5;
 
@@ -67,7 +67,7 @@ fn select_service(c: bool, a: Service, b: Service) -> Service
 fn window(day: u64, from: u64, to: u64, t: u64) -> bool
     ensures { λ r. ⌜ r ≡ Within (day + from) (day + to) t ⌝ }
 {
-    let passed = basics::less(t, day);
+    let passed = basics::minus_or_zero(t, day);
     (day <= t) & (from <= passed) & (passed <= to)
 }
 
@@ -79,7 +79,7 @@ fn recent(next: u64, t: u64) -> bool
 }
 
 fn service_after(service: u64, e: Event) -> u64
-    ensures { λ r. ⌜ r ≡ serviceAfter service e ⌝ }
+    ensures { λ r. ⌜ r ≡ servedAfter service e ⌝ }
 {
     let k = e.kind;
     let closed = basics::select64(k == CLOSING, CLOSED, service);

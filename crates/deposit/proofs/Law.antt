@@ -17,7 +17,7 @@ use Rattle.rules.proofs.Bounds.{sorted, in-days, held-in}
 use Rattle.deposit.specs.declared.Deposit.{Deposit}
 use Rattle.deposit.specs.Conduct.{conductOf, conductOk}
 use Rattle.deposit.specs.Deposit.{depositAfter, depositOf, earnedBy, depositOk, DepositFit}
-use Rattle.deposit.proofs.Windows.{kept, quiet-is}
+use Rattle.deposit.proofs.Windows.{year-kept, quiet-is}
 use Rattle.deposit.proofs.Full.{paidOn, paid-in, full-is}
 
 -- whatever the history, the part holds the rules' values, and the day of the newest deposit paid
@@ -30,7 +30,7 @@ deposit-is (e ∷ h) =
 
 conduct-ok : (h : History) → Lawful h → conductOk (conductOf h) ≡ true
 conduct-ok h w =
-    let k = kept h (sorted h w) in
+    let k = year-kept h (sorted h w) in
     let d = in-days h w in
     simp (le-leb (conductOf h .first) (finalDay + 1) (omega arith), le-leb _ _ (k .two), le-leb _ _ (k .three), le-leb (conductOf h .cut) (finalDay + 1) (omega arith))
 

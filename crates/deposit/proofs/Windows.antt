@@ -41,17 +41,17 @@ unfolding inYearBy
 year-none t = refl
 
 -- ---- what is kept is in order, and not past the last day
-pub record Kept (w : Conduct) (day : ℕ) : Type 0 where
+pub record YearKept (w : Conduct) (day : ℕ) : Type 0 where
   pub one : w .first ≤ day + 1
   pub two : w .second ≤ w .first
   pub three : w .third ≤ w .second
   pub cuts : w .cut ≤ day + 1
 
-pub kept : (h : History) → Sorted h → Kept (conductOf h) (lastPosted h)
+pub year-kept : (h : History) → Sorted h → YearKept (conductOf h) (lastPosted h)
 unfolding conductOf
-kept [] s = record { one = zero-le; two = zero-le; three = zero-le; cuts = zero-le }
-kept (e ∷ h) s =
-    let k = kept h (s .1) in
+year-kept [] s = record { one = zero-le; two = zero-le; three = zero-le; cuts = zero-le }
+year-kept (e ∷ h) s =
+    let k = year-kept h (s .1) in
     let cuts : conductOf (e ∷ h) .cut ≤ e .day + 1 = on (is disconnection e) (λ r. rw r (omega arith)) (λ r. rw r (omega arith)) in
     on (is finalNotice e)
     (λ q. record { one = simp q (omega arith); two = simp q (omega arith); three = simp q (omega arith); cuts = cuts })
@@ -82,7 +82,7 @@ unfolding conductOf
 counted [] t s l = omega (arith, ones-is 0 t false (year-none t))
 counted (e ∷ h) t s l =
     let ih = counted h t (s .1) (omega arith) in
-    let k = kept h (s .1) in
+    let k = year-kept h (s .1) in
     on (is finalNotice e)
     (λ q. simp (q, recent-now (e .day) t l, ← ones-day) (omega (
       arith,
@@ -97,7 +97,7 @@ counted (e ∷ h) t s l =
 notices-are : (h : History) (t : ℕ) → Sorted h → lastPosted h ≤ t → not (inYearBy (conductOf h .third) t) ≡ leb (notices h t) 2
 notices-are h t s l =
     let n = counted h t s l in
-    let k = kept h s in
+    let k = year-kept h s in
     let two = ones-more _ _ t (k .two) in
     let three = ones-more _ _ t (k .three) in
     let one = ones-at-most (conductOf h .first) t in
@@ -110,7 +110,7 @@ unfolding conductOf
 cut-is [] t s l = year-none t
 cut-is (e ∷ h) t s l =
     let ih = cut-is h t (s .1) (omega arith) in
-    let k = kept h (s .1) in
+    let k = year-kept h (s .1) in
     on (is disconnection e)
     (λ q. simp (q, recent-now (e .day) t l, ← ih, ← year-day) (sym (absorb _ _ (year-more (conductOf h .cut) (e .day + 1) t (omega arith)))))
     (λ q. simp q ih)

@@ -60,7 +60,7 @@ pub struct Deposit {
 fn in_year(next: u64, t: u64) -> bool
     ensures { λ r. ⌜ r ≡ inYearBy next t ⌝ }
 {
-    (1 <= next) & (basics::less(t, next) <= BARS_FOR)
+    (1 <= next) & (basics::minus_or_zero(t, next) <= BARS_FOR)
 }
 
 impl Conduct {
@@ -161,7 +161,7 @@ impl Deposit {
         ensures { λ r. ⌜ r ≡ earnedBy self t ⌝ }
     {
         let conduct = self.conduct;
-        self.is_full() & (FULL_FOR <= basics::less(t, self.full_on)) & conduct.quiet(t)
+        self.is_full() & (FULL_FOR <= basics::minus_or_zero(t, self.full_on)) & conduct.quiet(t)
     }
 
     pub fn ok(self) -> bool

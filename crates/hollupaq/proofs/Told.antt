@@ -7,11 +7,11 @@ use native.Mathlib.Omega.{arith}
 use lib.Dec.{leb, eqb}
 use lib.ListN.{length}
 use Rattle.rules.specs.Table.{limit}
-use Rattle.layout.specs.Book.{size}
-use Rattle.layout.specs.Lent.{sizesFine, kindsFine, writeRefusal, Wrote}
-use Rattle.layout.specs.Facts.{Sizes}
-use Rattle.layout.proofs.Told.{write-facts}
-use Rattle.layout.proofs.Forth.{length-written}
+use Rattle.bookformat.specs.Book.{size}
+use Rattle.bookformat.specs.Lent.{sizesFine, kindsFine, writeRefusal, WroteBook}
+use Rattle.bookformat.specs.Facts.{Sizes}
+use Rattle.bookformat.proofs.Told.{write-facts}
+use Rattle.bookformat.proofs.Forth.{length-written}
 use Rattle.questions.specs.declared.Amount.{Amount}
 use Rattle.questions.specs.declared.Amount.the-variants as amount
 use Rattle.questions.specs.declared.Truth.{Truth}
@@ -43,7 +43,7 @@ said-word truth.No n b s = told-value n 0 (cond b 1 0) (sym (s .number)) (let z 
 said-word (truth.Refused x) n b s = s .number ∙ not-told n _ (s .told)
 
 -- ---- a list that was written with this number
-module _ (cs ks os ds ms old new : List ℕ) (n : ℕ) (w : Wrote cs ks os ds ms old new n) where
+module _ (cs ks os ds ms old new : List ℕ) (n : ℕ) (w : WroteBook cs ks os ds ms old new n) where
   pub stored-not : (n ≡ 0 → ⊥) → Stored cs ks os ds ms old new n
   stored-not h = record { answer = w .answer ∙ told-number _ _ (rw (w .answer) at h); bytes = w .bytes }
 
@@ -55,7 +55,7 @@ module _ (cs ks os ds ms old new : List ℕ) (n : ℕ) (w : Wrote cs ks os ds ms
   pub stored-sizes : n ≡ 0 → Sizes cs ks os ds ms
   stored-sizes z = write-facts cs ks os ds ms (length old) (sym (w .answer) ∙ z) .sizes
 
--- ---- what the library stored was written, so that the round trips hold of it (`ListBack` in layout/specs/Trips.antt)
+-- ---- what the library stored was written, so that the round trips hold of it (`ListBack` in bookformat/specs/Trips.antt)
 
 small : (b : Bool) (x k : ℕ) → x ≤ 22 → k ≤ 22 → cond b x k ≤ 22
 small true x k p q = p
@@ -69,7 +69,7 @@ told-taken : (n v k : ℕ) → n ≤ 22 → 256 + k ≡ told n v → (n ≡ 0) �
 told-taken zero v k h e = (refl, omega (arith, e))
 told-taken (suc n) v k h e = absurd (omega (arith, e))
 
-pub stored-wrote : (cs ks os ds ms old new : List ℕ) (k : ℕ) → Stored cs ks os ds ms old new (256 + k) → Wrote cs ks os ds ms old new 0 × (k ≡ size (length cs) (length ks))
+pub stored-wrote : (cs ks os ds ms old new : List ℕ) (k : ℕ) → Stored cs ks os ds ms old new (256 + k) → WroteBook cs ks os ds ms old new 0 × (k ≡ size (length cs) (length ks))
 stored-wrote cs ks os ds ms old new k s =
     let p = told-taken _ _ k (write-small cs ks os ds ms (length old)) (s .answer) in
     (record { answer = sym (p .0); bytes = s .bytes }, p .1 ∙ length-written cs ks os ds ms (length old) (p .0))

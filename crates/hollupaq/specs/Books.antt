@@ -3,8 +3,8 @@ use Prim.Native.Nat.{ℕ}
 use mathlib.Core.Path.{_≡_}
 use mathlib.Core.List.{List}
 use lib.ListN.{length}
-use Rattle.layout.specs.Book.{encode}
-use Rattle.layout.specs.Lent.{after, lentList, writeRefusal}
+use Rattle.bookformat.specs.Book.{encode}
+use Rattle.bookformat.specs.Lent.{after, lentList, writeRefusal}
 use Rattle.hollupaq.specs.Library.{told}
 
 -- what writing a list does: its answer with the length of the book, and every byte of the output

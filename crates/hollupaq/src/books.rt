@@ -5,8 +5,8 @@ use little::get;
 ghost use mathlib.Core.Path.{_≡_};
 ghost use Prim.Native.Nat.{_≤_};
 ghost use Rattle.little.specs.Little.{num};
-ghost use Rattle.layout.specs.Book.{accounts, records, bookRefusal};
-ghost use Rattle.layout.specs.Lent.{Gave};
+ghost use Rattle.bookformat.specs.Book.{accounts, records, bookRefusal};
+ghost use Rattle.bookformat.specs.Lent.{Gave};
 ghost use Rattle.hollupaq.specs.Library.{told};
 ghost use Rattle.hollupaq.specs.Books.{Stored};
 

@@ -6,7 +6,7 @@ mod kept;
 use bookpost::history;
 use report::report;
 ghost use Rattle.report.specs.Report.{textOf};
-ghost use Rattle.bookpost.specs.History.{Told};
+ghost use Rattle.bookpost.specs.BookHistory.{ToldHistory};
 ghost use mathlib.Core.Path.{_≡_};
 ghost use Rattle.hollupaq.specs.Library.{libraryVersion, Written};
 
@@ -45,7 +45,7 @@ pub extern "C" fn hollupaq_history(
     numbers: &mut [u8],
     owed: &mut [i64],
 ) -> u8
-    ensures { λ r. ⌜ Told (now (book .entry)) account (now (numbers .entry)) (now (numbers .exit)) (now (owed .entry)) (now (owed .exit)) r ⌝ }
+    ensures { λ r. ⌜ ToldHistory (now (book .entry)) account (now (numbers .entry)) (now (numbers .exit)) (now (owed .entry)) (now (owed .exit)) r ⌝ }
 {
     let o = history(book, account, numbers, owed);
     o.number()

@@ -14,7 +14,7 @@ use Rattle.rules.specs.Money.{keep}
 use Rattle.rules.specs.Table.{mostOpen}
 use Rattle.ledger.specs.Ring.{uptoAt, stored, itemsFrom, closedFrom, belowFrom}
 use Rattle.ledger.specs.Ledger.{Ledger, creditsBy, openOf, enteredIn, creditedIn, paidFrom, settled, ledgerAfter, isSettled}
-use Rattle.ledger.proofs.Ring.{isOpen, Chained, joined, chain-join, left-open, left-chained, closed-in, closed-again, below-again, many}
+use Rattle.ledger.proofs.Ring.{isOpen, Chained, ring-joined, chain-join, left-open, left-chained, closed-in, closed-again, below-again, many}
 use Rattle.ledger.proofs.Turns.{done, stop, pass}
 
 -- a ring of 64 places that holds the open items, whose sums rise to C
@@ -23,8 +23,8 @@ pub record Formed (l : Ledger) : Type 0 where
   pub closed-le : l .closed ≤ l .made
   pub chain : Chained (l .below) (l .charged) (openOf l)
 
-pub count : (l : Ledger) → length (openOf l) ≡ l .made - l .closed
-count l = many (l .made - l .closed) (l .closed) (l .below) (l .ring)
+pub kept-count : (l : Ledger) → length (openOf l) ≡ l .made - l .closed
+kept-count l = many (l .made - l .closed) (l .closed) (l .below) (l .ring)
 
 -- ---- one more item
 module _ (l : Ledger) (f : Formed l) (d a : ℕ) (r : l .made - l .closed < mostOpen) where
@@ -35,7 +35,7 @@ module _ (l : Ledger) (f : Formed l) (d a : ℕ) (r : l .made - l .closed < most
       let z : l .made ≡ l .closed + n = omega (arith, f .closed-le) in
       ap (λ m. itemsFrom m (l .closed) (l .below) (stored (l .ring) (l .made) d (l .charged + a))) y
       ∙ ap (λ m. itemsFrom (suc n) (l .closed) (l .below) (stored (l .ring) m d (l .charged + a))) z
-      ∙ joined n (l .closed) (l .below) (l .charged) (l .ring) d a (f .size) r (f .chain)
+      ∙ ring-joined n (l .closed) (l .below) (l .charged) (l .ring) d a (f .size) r (f .chain)
 
   pub enter-formed : 0 < a → Formed (enteredIn l d a)
   enter-formed q =

@@ -31,7 +31,7 @@ use Rattle.ledger.specs.Ring.{itemsFrom}
 use Rattle.ledger.specs.Ledger.{Ledger, creditsBy, openOf, arrearsBy, enteredIn, creditedIn, paidFrom, settled, ledgerAfter, ledgerOf, ledgerOk}
 use Rattle.ledger.proofs.Ring.{isOpen, Chained, chain-sum, closed-in}
 use Rattle.ledger.proofs.Places.{Placed, none-placed, placed-more, one-ring}
-use Rattle.ledger.proofs.Kept.{Formed, count, enter-open, enter-formed, settle-open, settle-formed, settle-twice, settled-still}
+use Rattle.ledger.proofs.Kept.{Formed, kept-count, enter-open, enter-formed, settle-open, settle-formed, settle-twice, settled-still}
 
 -- ---- the items of a lawful history: above 0, and no further than C
 abbrev Sound : ℕ → Item → Type 0
@@ -124,7 +124,7 @@ joins h e l w s =
     on (charges e)
     (λ q.
     let u = leb-false mostOpen (length (openItems h)) (rw q at (p .allowed .r18)) in
-    let n : l .made - l .closed < mostOpen = omega (arith, count l, ap length (s .open-are), ap length (kept-open h (w .1))) in
+    let n : l .made - l .closed < mostOpen = omega (arith, kept-count l, ap length (s .open-are), ap length (kept-open h (w .1))) in
     let c = s .charged-is in
     rw q
     (record {
@@ -211,7 +211,7 @@ due-le p t n k b c s e =
     omega (arith, chain-sum n k b c s e)
 
 -- l keeps h: what it answers, and every word of it
-pub record Keeps (h : History) (l : Ledger) : Type 0 where
+pub record KeepsLedger (h : History) (l : Ledger) : Type 0 where
   pub charged-is : l .charged ≡ charged h
   pub credited-is : l .credited ≡ credited h
   pub paid-is : l .«paid_out» ≡ total payout h
@@ -230,7 +230,7 @@ pub record Keeps (h : History) (l : Ledger) : Type 0 where
   pub passes : ledgerOk l ≡ true
 
 abbrev pub LedgerLaw : History → Type 0
-LedgerLaw h = Keeps h (ledgerOf h)
+LedgerLaw h = KeepsLedger h (ledgerOf h)
 
 -- the arrears never come near the largest number
 arrears-law : (h : History) → Lawful h → Stored h (ledgerOf h) → creditsBy (ledgerOf h) ≡ credits h → (t : ℕ) → arrearsBy (ledgerOf h) t ≡ arrears h t
@@ -261,7 +261,7 @@ ledger-law h w =
     let s = stored h w in
     let p : creditsBy l ≡ credits h = omega (arith, s .credited-is, s .paid-is) in
     let o = s .open-are ∙ kept-open h w in
-    let n : l .made - l .closed ≡ length (openItems h) = sym (count l) ∙ ap length o in
+    let n : l .made - l .closed ≡ length (openItems h) = sym (kept-count l) ∙ ap length o in
     let r : length (openItems h) ≤ mostOpen = rw (sym (kept-open h w)) (room-kept h w) in
     let b = chain-sum (l .made - l .closed) (l .closed) (l .below) (l .charged) (l .ring) (s .formed .chain) in
     record {
@@ -292,7 +292,7 @@ never-back h e =
     omega (arith, i .0, z)
 
 -- ---- every word is said: a ledger that keeps h is the one of h
-pub one-ledger : (h : History) (l m : Ledger) → Keeps h l → Keeps h m → l ≡ m
+pub one-ledger : (h : History) (l m : Ledger) → KeepsLedger h l → KeepsLedger h m → l ≡ m
 one-ledger h l m p q =
     let c = p .charged-is ∙ sym (q .charged-is) in
     let d = p .credited-is ∙ sym (q .credited-is) in

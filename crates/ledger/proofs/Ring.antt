@@ -59,17 +59,17 @@ chain-le b c [] e = omega arith
 chain-le b c (x ∷ xs) e = omega (arith, e .0, chain-le (x .upto) c xs (e .1))
 
 -- ---- one more item joins at the end; b is the sum before the first, c that of all
-pub joined : (n k b c : ℕ) (s : List ℕ) (d a : ℕ) → length s ≡ 128 → n < places → Chained b c (itemsFrom n k b s)
+pub ring-joined : (n k b c : ℕ) (s : List ℕ) (d a : ℕ) → length s ≡ 128 → n < places → Chained b c (itemsFrom n k b s)
     → itemsFrom (suc n) k b (stored s (k + n) d (c + a)) ≡ itemsFrom n k b s ++ (record { day = d; amount = a; upto = c + a } ∷ [])
-joined zero k b c s d a l r e =
+ring-joined zero k b c s d a l r e =
     let z : k + 0 ≡ k = omega arith in
     let y : c + a - b ≡ a = omega (arith, e) in
     rw (z, day-new s l k d (c + a), upto-new s l k d (c + a), y)
-joined (suc n) k b c s d a l r e =
+ring-joined (suc n) k b c s d a l r e =
     let z : k + suc n ≡ suc k + n = omega arith in
     let y = apart k (k + suc n) (omega arith) (omega arith) in
     rw (day-old s k (k + suc n) d (c + a) y, upto-old s k (k + suc n) d (c + a) y, z)
-    (ap (λ xs. itemAt s k b ∷ xs) (joined n (suc k) (uptoAt s k) c s d a l (omega arith) (e .1)))
+    (ap (λ xs. itemAt s k b ∷ xs) (ring-joined n (suc k) (uptoAt s k) c s d a l (omega arith) (e .1)))
 
 pub chain-join : (b c d a : ℕ) (xs : List Item) → 0 < a → Chained b c xs → Chained b (c + a) (xs ++ (record { day = d; amount = a; upto = c + a } ∷ []))
 chain-join b c d a [] p e = (omega (arith, e), refl)

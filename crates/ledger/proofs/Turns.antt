@@ -12,7 +12,7 @@ use Rattle.basics.proofs.Cases.{on-le}
 use Rattle.rules.specs.declared.Item.{Item}
 use Rattle.rules.specs.Money.{sumOf, due}
 use Rattle.ledger.specs.Ring.{dayAt, uptoAt, itemAt, itemsFrom, closedFrom, belowFrom}
-use Rattle.ledger.specs.Ledger.{Ledger, creditsBy, seen, openBy, noItem, sumBefore}
+use Rattle.ledger.specs.Ledger.{Ledger, creditsBy, shownItem, openBy, noItem, sumBefore}
 use Rattle.ledger.proofs.Ring.{many}
 
 module _ (m k p b : ℕ) (s : List ℕ) where
@@ -87,14 +87,14 @@ before-is : (i k b : ℕ) (s : List ℕ) → beforeFrom i k b s ≡ cond (eqb i 
 before-is zero k b s = refl
 before-is (suc i) k b s = let z : k + suc i - 1 ≡ k + i = omega arith in rw (ne-eqb (suc i) 0 (omega arith), z) (before-last i k b s)
 
-at-place : (p n k b i : ℕ) (s : List ℕ) → i < n → seen p (itemAt s (k + i) (beforeFrom i k b s)) ≡ getD (map (seen p) (itemsFrom n k b s)) i noItem
+at-place : (p n k b i : ℕ) (s : List ℕ) → i < n → shownItem p (itemAt s (k + i) (beforeFrom i k b s)) ≡ getD (map (shownItem p) (itemsFrom n k b s)) i noItem
 at-place p zero k b i s h = absurd (omega arith)
 at-place p (suc n) k b zero s h = let z : k + 0 ≡ k = omega arith in rw z
 at-place p (suc n) k b (suc i) s h =
     let z : k + suc i ≡ suc k + i = omega arith in
     rw z (at-place p n (suc k) (uptoAt s k) i s (omega arith))
 
-pub open-at : (l : Ledger) (i : ℕ) → i < l .made - l .closed → seen (creditsBy l) (itemAt (l .ring) (l .closed + i) (sumBefore l i)) ≡ getD (openBy l) i noItem
+pub open-at : (l : Ledger) (i : ℕ) → i < l .made - l .closed → shownItem (creditsBy l) (itemAt (l .ring) (l .closed + i) (sumBefore l i)) ≡ getD (openBy l) i noItem
 open-at l i h = rw (before-is i (l .closed) (l .below) (l .ring)) at (at-place (creditsBy l) (l .made - l .closed) (l .closed) (l .below) i (l .ring) h)
 
 pub past-open : (l : Ledger) (i : ℕ) → l .made - l .closed ≤ i → noItem ≡ getD (openBy l) i noItem

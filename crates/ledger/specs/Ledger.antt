@@ -70,11 +70,11 @@ abbrev pub arrearsBy : Ledger → ℕ → ℕ
 arrearsBy l t = min (sumOf (due (creditsBy l) t) (openOf l)) largest
 
 -- an open item as it is shown, where credits come to p: its day and its unpaid part
-abbrev pub seen : ℕ → Item → OpenItem
-seen p x = record { day = x .day; unpaid = unpaid p x }
+abbrev pub shownItem : ℕ → Item → OpenItem
+shownItem p x = record { day = x .day; unpaid = unpaid p x }
 
 abbrev pub openBy : Ledger → List OpenItem
-openBy l = map (seen (creditsBy l)) (openOf l)
+openBy l = map (shownItem (creditsBy l)) (openOf l)
 
 -- past the last open item
 abbrev pub noItem : OpenItem

@@ -86,7 +86,7 @@ fn credits(w: &[u64]) -> u64
     requires { ⌜ length (now w) ≡ ledgerSize ⌝ }
     ensures { λ r. ⌜ r ≡ creditsBy (ledgerOn (now (w .entry))) ⌝ }
 {
-    basics::less(w[CREDITED], w[PAID_OUT])
+    basics::minus_or_zero(w[CREDITED], w[PAID_OUT])
 }
 
 // ---- settling
@@ -204,7 +204,7 @@ pub fn sums_of(w: &[u64]) -> Sums
         charged: w[CHARGED],
         credited: w[CREDITED],
         credits: credits(w),
-        open_count: basics::less(w[MADE], w[CLOSED]),
+        open_count: basics::minus_or_zero(w[MADE], w[CLOSED]),
     }
 }
 
@@ -221,14 +221,14 @@ pub fn owed(w: &[u64]) -> i64
 fn unpaid(amount: u64, upto: u64, p: u64) -> u64
     ensures { λ r. ⌜ r ≡ min amount (upto - p) ⌝ }
 {
-    basics::lesser(amount, basics::less(upto, p))
+    basics::lesser(amount, basics::minus_or_zero(upto, p))
 }
 
 // The same where the item is delinquent on day t, else 0. Its day may be any word, so the sum of days is not made.
 fn due(day: u64, amount: u64, upto: u64, p: u64, t: u64) -> u64
     ensures { λ r. ⌜ r ≡ dueOf p t (record { day = day; amount = amount; upto = upto }) ⌝ }
 {
-    let late = (GRACE <= t) & (day <= basics::less(t, GRACE));
+    let late = (GRACE <= t) & (day <= basics::minus_or_zero(t, GRACE));
     basics::select64(late, unpaid(amount, upto, p), 0)
 }
 
@@ -244,7 +244,7 @@ pub fn arrears(w: &[u64], t: u64) -> u64
     let mut sum: u64 = 0;
     while k < made {
         let upto = upto_of(w, k);
-        let item = due(day_of(w, k), basics::less(upto, below), upto, p, t);
+        let item = due(day_of(w, k), basics::minus_or_zero(upto, below), upto, p, t);
         sum = basics::plus(sum, item);
         below = upto;
         k += 1;
@@ -280,7 +280,7 @@ pub fn open_item(w: &[u64], i: u64) -> OpenItem
     ensures { λ r. ⌜ r ≡ getD (openBy (ledgerOn (now (w .entry)))) i noItem ⌝ }
 {
     let closed = w[CLOSED];
-    if basics::less(w[MADE], closed) <= i {
+    if basics::minus_or_zero(w[MADE], closed) <= i {
         return OpenItem { day: 0, unpaid: 0 };
     }
     let day = day_of(w, closed + i);
@@ -288,7 +288,7 @@ pub fn open_item(w: &[u64], i: u64) -> OpenItem
     let before = sum_before(w, i);
     OpenItem {
         day,
-        unpaid: unpaid(basics::less(upto, before), upto, credits(w)),
+        unpaid: unpaid(basics::minus_or_zero(upto, before), upto, credits(w)),
     }
 }
 
@@ -315,7 +315,7 @@ fn head_ok(w: &[u64]) -> bool
         & (w[PAID_OUT] <= credited)
         & (made <= charged)
         & (closed <= made)
-        & (basics::less(made, closed) <= MOST_OPEN)
+        & (basics::minus_or_zero(made, closed) <= MOST_OPEN)
 }
 
 // The test: sums within the limit, payouts within the credits, at most 64 items open and the first of them not paid.

@@ -42,8 +42,8 @@ pub record LawsOf (R : RattleType) (spelled : R .Denot → List Val) : Type 2 wh
   pub lawful : {M : Type 1} (𝓤 : URA M) (H : Heap 𝓤) (A : Atoms 𝓤) (W : Given 𝓤 H A) → Lawful 𝓤 H A R
   pub copy : {M : Type 1} (𝓤 : URA M) (H : Heap 𝓤) (A : Atoms 𝓤) (W : Given 𝓤 H A) → Copy 𝓤 H A R
 
-abbrev pub Laws : Data → Type 2
-Laws d = LawsOf (row d) (vals d)
+abbrev pub DataLaws : Data → Type 2
+DataLaws d = LawsOf (row d) (vals d)
 
 -- ---- of every struct, every enum and every number
 abbrev pub of-row : (R : RattleType) → Ty → (R .Denot → Val) → Data
@@ -94,7 +94,7 @@ module _ (S T : Data) (p : Two S T) where
   }
 
   pub record TwoLaws : Type 2 where
-    pub laws : Laws struct
+    pub laws : DataLaws struct
     -- the parts of a struct are as its own laws say, and a struct is made of any two
     pub parts : (z : p .Denot) (v : Val) → Is (row struct) z (v ∷ []) → Is (row S) (p .first z) (vals S (p .first z)) × Is (row T) (p .second z) (vals T (p .second z))
     pub made : (s : S .Denot) (t : T .Denot) → Is (row S) s (vals S s) → Is (row T) t (vals T t) → Is (row struct) (p .make s t) (of s t ∷ [])

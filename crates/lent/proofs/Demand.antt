@@ -7,7 +7,7 @@ use Rattle.account.specs.declared.Account.{Account}
 use Rattle.account.specs.Post.{posted, Leaves}
 use Rattle.claim.specs.Run.{run, answers, LeftBy}
 use Rattle.claim.proofs.Demand.{demand-3-left}
-use Rattle.lent.specs.Left.{LeavesLent, fresh, LentClaim}
+use Rattle.lent.specs.Left.{LeavesLent, freshAccount, LentClaim}
 
 -- an account that is lent is its memory
 in-memory : (a : Account) (es : List Event) (said : List Answer) (z : Account) → LeftBy LeavesLent a es said z → LeftBy Leaves (a .memory) es said (z .memory)
@@ -19,7 +19,7 @@ in-memory a (e ∷ es) (s ∷ said) z h =
 
 -- DEMAND 3
 pub demand-3-lent : (es : List Event) (said : List Answer) (z : Account) → LentClaim es said z
-demand-3-lent es said z h = demand-3-left es said (z .memory) (in-memory fresh es said z h)
+demand-3-lent es said z h = demand-3-left es said (z .memory) (in-memory freshAccount es said z h)
 
 -- every list can be posted so
 pub any-list-lent : (a : Account) (es : List Event) → LeftBy LeavesLent a es (answers (a .memory) es) (record { memory = run (a .memory) es })

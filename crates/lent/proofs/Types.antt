@@ -11,28 +11,28 @@ use Rattle.account.proofs.Account as account-type
 use Rattle.account.proofs.Account.Laws as account-type′
 use Rattle.account.proofs.Posted as posted-type
 use Rattle.account.proofs.Posted.Laws as posted-type′
-use Rattle.lent.proofs.Data.{Data, Laws, of-row, struct-laws, enum-laws, Two, struct, TwoLaws}
+use Rattle.lent.proofs.Data.{Data, DataLaws, of-row, struct-laws, enum-laws, Two, struct, TwoLaws}
 
-abbrev pub account : Data
-account = of-row account-type.the-row account-type′.mir (structs.val account-type.the-type account-type′.the-laws)
+abbrev pub accountData : Data
+accountData = of-row account-type.the-row account-type′.mir (structs.val account-type.the-type account-type′.the-laws)
 
-pub account-laws : Laws account
+pub account-laws : DataLaws accountData
 account-laws = struct-laws account-type.the-type account-type′.the-laws account-type′.the-plain account-type′.the-copy
 
-abbrev pub event : Data
-event = of-row event-type.the-row event-type′.mir (structs.val event-type.the-type event-type′.the-laws)
+abbrev pub eventData : Data
+eventData = of-row event-type.the-row event-type′.mir (structs.val event-type.the-type event-type′.the-laws)
 
-pub event-laws : Laws event
+pub event-laws : DataLaws eventData
 event-laws = struct-laws event-type.the-type event-type′.the-laws event-type′.the-plain event-type′.the-copy
 
-abbrev pub answer : Data
-answer = of-row answer-type.the-row answer-type′.mir (enums.val answer-type.the-type answer-type′.the-laws)
+abbrev pub answerData : Data
+answerData = of-row answer-type.the-row answer-type′.mir (enums.val answer-type.the-type answer-type′.the-laws)
 
-pub answer-laws : Laws answer
+pub answer-laws : DataLaws answerData
 answer-laws = enum-laws answer-type.the-type answer-type′.the-laws tt answer-type′.the-plain answer-type′.the-copy
 
 -- what a posting answers and the account it leaves
-abbrev pub both : Two answer account
+abbrev pub both : Two answerData accountData
 both = record {
   Denot = posted-type.the-row .Denot;
   name = posted-type.struct .name;
@@ -45,7 +45,7 @@ both = record {
   make = λ s t. record { answer = s; account = t };
 }
 
-pub both-laws : TwoLaws answer account both
+pub both-laws : TwoLaws answerData accountData both
 both-laws = record {
   laws = struct-laws posted-type.the-type posted-type′.the-laws posted-type′.the-plain posted-type′.the-copy;
   parts = λ z v is. (structs.owed posted-type.the-type posted-type′.the-laws z (v ∷ []) is .0, structs.owed posted-type.the-type posted-type′.the-laws z (v ∷ []) is .1 .0);

@@ -14,9 +14,9 @@ use Rattle.claim.specs.Claim.{ClaimOf}
 abbrev pub LeavesLent : Account → Event → Answer → Account → Type 0
 LeavesLent a e s z = (s ≡ posted a e .answer) × (z ≡ posted a e .account)
 
-abbrev pub fresh : Account
-fresh = record { memory = freshWords }
+abbrev pub freshAccount : Account
+freshAccount = record { memory = freshWords }
 
 -- whatever list was posted, accepted and refused mixed
 abbrev pub LentClaim : List Event → List Answer → Account → Type 0
-LentClaim es said z = LeftBy LeavesLent fresh es said z → ClaimOf (z .memory) said es (accepted es)
+LentClaim es said z = LeftBy LeavesLent freshAccount es said z → ClaimOf (z .memory) said es (accepted es)

@@ -13,9 +13,9 @@ use Rattle.rules.specs.Notice.{noticeLive}
 use Rattle.rules.specs.Medical.{certified}
 use Rattle.rules.specs.Arrangement.{inForce}
 use Rattle.rules.specs.Accepted.{dayRows, dayRefusal}
-use Rattle.ledger.specs.Ledger.{seen}
+use Rattle.ledger.specs.Ledger.{shownItem}
 use Rattle.account.specs.State.{State, wordsOf, accountOf}
-use Rattle.questions.specs.Questions.{asked, owedIn, heldIn, requiredIn, serviceIn, openIn, countIn, toldCents, toldTruth, arrearsOn, inForceOn, noticeLiveOn, certifiedOn, Tells, Says}
+use Rattle.questions.specs.Questions.{askedOf, owedIn, heldIn, requiredIn, serviceIn, openIn, countIn, toldCents, toldTruth, arrearsOn, inForceOn, noticeLiveOn, certifiedOn, Tells, Says}
 use Rattle.questions.proofs.Laws.{Laws}
 
 -- a day that no number refuses is not before the last; of one that is refused nothing is told
@@ -41,8 +41,8 @@ told-truth last t a b same =
 
 module _ (h : History) (k : Laws h) where
   -- what is asked of the memory of a history
-  pub asked-is : {A : Type 0} (ask : State → A) (none : A) → asked (wordsOf (accountOf h)) ask none ≡ ask (accountOf h)
-  unfolding asked
+  pub asked-is : {A : Type 0} (ask : State → A) (none : A) → askedOf (wordsOf (accountOf h)) ask none ≡ ask (accountOf h)
+  unfolding askedOf
   asked-is ask none = rw (k .passing) (ap ask (k .account-is))
 
   pub owed-is : owedIn (wordsOf (accountOf h)) ≡ owed h
@@ -57,7 +57,7 @@ module _ (h : History) (k : Laws h) where
   pub service-is : serviceIn (wordsOf (accountOf h)) ≡ service h
   service-is = asked-is _ _ ∙ k .on-collection .service-is
 
-  open-are : openIn (wordsOf (accountOf h)) ≡ map (seen (credits h)) (openItems h)
+  open-are : openIn (wordsOf (accountOf h)) ≡ map (shownItem (credits h)) (openItems h)
   open-are = asked-is _ _ ∙ rw (k .on-ledger .credits-is, k .on-ledger .open-are)
 
   pub open-days : map (λ x. x .day) (openIn (wordsOf (accountOf h))) ≡ map (λ x. x .day) (openItems h)

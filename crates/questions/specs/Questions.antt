@@ -20,32 +20,32 @@ use Rattle.questions.specs.declared.Truth.{Truth}
 use Rattle.questions.specs.declared.Truth.the-variants as truth
 
 -- what is asked of an account, and the answer of what is none
-unfoldable pub asked : {A : Type 0} → List ℕ → (State → A) → A → A
-asked m ask none = cond (passes m) (ask (stateOn m)) none
+unfoldable pub askedOf : {A : Type 0} → List ℕ → (State → A) → A → A
+askedOf m ask none = cond (passes m) (ask (stateOn m)) none
 
 -- owed: C − P, which may be negative
 abbrev pub owedBy : State → ℤ
 owedBy s = subℕ (s .ledger .charged) (creditsBy (s .ledger))
 
 abbrev pub owedIn : List ℕ → ℤ
-owedIn m = asked m owedBy (pos 0)
+owedIn m = askedOf m owedBy (pos 0)
 
 -- the deposit held and required
 abbrev pub heldIn : List ℕ → ℕ
-heldIn m = asked m (λ s. s .deposit .held) 0
+heldIn m = askedOf m (λ s. s .deposit .held) 0
 
 abbrev pub requiredIn : List ℕ → ℕ
-requiredIn m = asked m (λ s. s .deposit .required) 0
+requiredIn m = askedOf m (λ s. s .deposit .required) 0
 
 abbrev pub serviceIn : List ℕ → Service
-serviceIn m = asked m (λ s. serviceBy (s .collection .service)) Closed
+serviceIn m = askedOf m (λ s. serviceBy (s .collection .service)) Closed
 
 -- the open items, day and unpaid part in the order posted, and how many they are
 abbrev pub openIn : List ℕ → List OpenItem
-openIn m = asked m (λ s. openBy (s .ledger)) []
+openIn m = askedOf m (λ s. openBy (s .ledger)) []
 
 abbrev pub countIn : List ℕ → ℕ
-countIn m = asked m (λ s. s .ledger .made - s .ledger .closed) 0
+countIn m = askedOf m (λ s. s .ledger .made - s .ledger .closed) 0
 
 -- ---- for a day t, refused with 1 or 2 as an event is
 -- the number that refuses a question for t, 0 for none
@@ -60,17 +60,17 @@ abbrev pub toldTruth : ℕ → Bool → Truth
 toldTruth n b = cond (eqb n 0) (cond b truth.Yes truth.No) (truth.Refused n)
 
 abbrev pub arrearsOn : List ℕ → ℕ → Amount
-arrearsOn m t = asked m (λ s. toldCents (dayRefusalBy s t) (arrearsBy (s .ledger) t)) (amount.Refused 0)
+arrearsOn m t = askedOf m (λ s. toldCents (dayRefusalBy s t) (arrearsBy (s .ledger) t)) (amount.Refused 0)
 
 -- an arrangement is in force, a notice is live, a certificate is live
 abbrev pub inForceOn : List ℕ → ℕ → Truth
-inForceOn m t = asked m (λ s. toldTruth (dayRefusalBy s t) (inForceBy (s .arrangement) t)) (truth.Refused 0)
+inForceOn m t = askedOf m (λ s. toldTruth (dayRefusalBy s t) (inForceBy (s .arrangement) t)) (truth.Refused 0)
 
 abbrev pub noticeLiveOn : List ℕ → ℕ → Truth
-noticeLiveOn m t = asked m (λ s. toldTruth (dayRefusalBy s t) (liveBy (s .collection .notice) t)) (truth.Refused 0)
+noticeLiveOn m t = askedOf m (λ s. toldTruth (dayRefusalBy s t) (liveBy (s .collection .notice) t)) (truth.Refused 0)
 
 abbrev pub certifiedOn : List ℕ → ℕ → Truth
-certifiedOn m t = asked m (λ s. toldTruth (dayRefusalBy s t) (certifiedBy (s .medical) t)) (truth.Refused 0)
+certifiedOn m t = askedOf m (λ s. toldTruth (dayRefusalBy s t) (certifiedBy (s .medical) t)) (truth.Refused 0)
 
 -- ---- document 01's number and value of such an answer, by cases
 -- something is told; else a number refuses, which is 0 where the memory is no account

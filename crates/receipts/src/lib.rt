@@ -46,7 +46,7 @@ pub fn payment(w: &[u64], receipt: u64) -> u64
 {
     let n = w[COUNT];
     let at = place(receipt);
-    let known = rules::within(1, n, receipt) & (basics::less(n, receipt) < PLACES);
+    let known = rules::within(1, n, receipt) & (basics::minus_or_zero(n, receipt) < PLACES);
     basics::select64(known, w[at], 0)
 }
 

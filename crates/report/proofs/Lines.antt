@@ -14,13 +14,13 @@ use Rattle.rules.specs.Money.{owed, openItems}
 use Rattle.rules.specs.Service.{service, wordOf}
 use Rattle.rules.specs.Accepted.{accepted}
 use Rattle.account.specs.State.{State, stateOn, passes}
-use Rattle.questions.specs.Questions.{asked}
+use Rattle.questions.specs.Questions.{askedOf}
 use Rattle.claim.specs.Claim.{Ran}
-use Rattle.layout.specs.Book.{AccountList}
+use Rattle.bookformat.specs.Book.{AccountList}
 use Rattle.text.specs.Decimal.{width, decimal, signed}
 use Rattle.text.proofs.Numerals.{length-decimal, length-marked, width-short, signed-short}
 use Rattle.report.specs.declared.Standing.{Standing}
-use Rattle.report.specs.Standing.{Stands, standingOn, marked, statePart, standingLine}
+use Rattle.report.specs.Standing.{Stands, standingOn, followed, statePart, standingLine}
 use Rattle.report.specs.Report.{line, lineOf, linesOf}
 
 word-short : (v : Service) → length (wordOf v) ≤ 6
@@ -29,12 +29,12 @@ word-short Off = omega arith
 word-short Closed = omega arith
 
 -- where an account stands, by demand 3
-asked-of : {A : Type 0} (m : List ℕ) (ask : State → A) (none : A) → passes m ≡ true → ask (stateOn m) ≡ asked m ask none
-unfolding asked
+asked-of : {A : Type 0} (m : List ℕ) (ask : State → A) (none : A) → passes m ≡ true → ask (stateOn m) ≡ askedOf m ask none
+unfolding askedOf
 asked-of m ask none q = rw q
 
-pub stands : (m : List ℕ) (r : ℕ) (es : List Event) → Ran m r es → Stands (standingOn m r) es (accepted es)
-stands m r es s =
+pub standing-is : (m : List ℕ) (r : ℕ) (es : List Event) → Ran m r es → Stands (standingOn m r) es (accepted es)
+standing-is m r es s =
     let k = s .claim in
     record {
       owing = asked-of m _ _ (k .passing) ∙ k .owing;
@@ -49,7 +49,7 @@ regroup x y z s = append-assoc x (y ++ z) s ∙ ap (λ l. x ++ l) (append-assoc 
 
 standing-line : (i : ℕ) (s : Standing) → standingLine i s ≡ line i (subℕ (s .charged) (s .credits)) (s .held) (s .«open_count») (s .service) (s .refused)
 unfolding standingLine
-standing-line i s = regroup (marked (decimal i) 32) (marked (signed (subℕ (s .charged) (s .credits))) 32) (marked (decimal (s .held)) 32) (statePart s)
+standing-line i s = regroup (followed (decimal i) 32) (followed (signed (subℕ (s .charged) (s .credits))) 32) (followed (decimal (s .held)) 32) (statePart s)
 
 pub line-is : (i : ℕ) (s : Standing) (es : List Event) → Stands s es (accepted es) → standingLine i s ≡ lineOf i es
 unfolding lineOf
@@ -59,14 +59,14 @@ line-is i s es k = standing-line i s ∙ rw (k .owing, k .holding, k .opens, k .
 module _ (i : ℕ) (m : ℤ) (h o : ℕ) (v : Service) (r : ℕ) where
   line-length : length (line i m h o v r) ≡ width i + length (signed m) + width h + (width o + length (wordOf v) + width r) + 6
   line-length =
-      let last = marked (decimal r) 10 in
-      let word = marked (wordOf v) 32 in
-      let opens = marked (decimal o) 32 in
-      let holds = marked (decimal h) 32 in
-      let owes = marked (signed m) 32 in
+      let last = followed (decimal r) 10 in
+      let word = followed (wordOf v) 32 in
+      let opens = followed (decimal o) 32 in
+      let holds = followed (decimal h) 32 in
+      let owes = followed (signed m) 32 in
       omega (
         arith,
-        length-append (marked (decimal i) 32) (owes ++ (holds ++ (opens ++ (word ++ last)))),
+        length-append (followed (decimal i) 32) (owes ++ (holds ++ (opens ++ (word ++ last)))),
         length-append owes (holds ++ (opens ++ (word ++ last))),
         length-append holds (opens ++ (word ++ last)),
         length-append opens (word ++ last),

@@ -11,14 +11,14 @@ use lib.ListN.{length, drop, length-append, drop-of-length-le}
 use lib.Seq.{sets, drop-cons, length-sets}
 use Rattle.basics.specs.Ascii.{ascii}
 use Rattle.little.proofs.Stores.{sets-front, sets-then}
-use Rattle.layout.specs.Book.{mostAccounts, accounts, bookRefusal, decode}
-use Rattle.layout.specs.Finding.{accountOf}
-use Rattle.layout.proofs.Told.{book-facts}
-use Rattle.layout.proofs.Found.{decode-length}
+use Rattle.bookformat.specs.Book.{mostAccounts, accounts, bookRefusal, decode}
+use Rattle.bookformat.specs.Finding.{bookAccount}
+use Rattle.bookformat.proofs.Told.{book-facts}
+use Rattle.bookformat.proofs.Found.{decode-length}
 use Rattle.text.specs.Decimal.{width, decimal}
 use Rattle.text.specs.Put.{Put}
 use Rattle.text.proofs.Numerals.{length-decimal, length-marked}
-use Rattle.report.specs.Report.{heading, lineOf, linesOf, listing, refusedText, textBy, roomFor, Wrote}
+use Rattle.report.specs.Report.{heading, lineOf, linesOf, listing, refusedText, textBy, roomFor, WroteText}
 use Rattle.report.specs.declared.Printed.the-variants.{Bytes, Refused}
 use Rattle.report.proofs.Lines.{lines-short}
 
@@ -26,9 +26,9 @@ use Rattle.report.proofs.Lines.{lines-short}
 abbrev pub remaining : List ℕ → ℕ → List ℕ
 remaining b i = linesOf i (drop i (decode b))
 
-next-line : (b : List ℕ) (i : ℕ) → i < accounts b → remaining b i ≡ lineOf i (accountOf b i) ++ remaining b (i + 1)
+next-line : (b : List ℕ) (i : ℕ) → i < accounts b → remaining b i ≡ lineOf i (bookAccount b i) ++ remaining b (i + 1)
 next-line b i h =
-    let d : drop i (decode b) ≡ accountOf b i ∷ drop (i + 1) (decode b) = rw add-one (drop-cons (decode b) i [] (rw (decode-length b) h)) in
+    let d : drop i (decode b) ≡ bookAccount b i ∷ drop (i + 1) (decode b) = rw add-one (drop-cons (decode b) i [] (rw (decode-length b) h)) in
     ap (linesOf i) d
 
 none-left : (b : List ℕ) (i : ℕ) → accounts b ≤ i → remaining b i ≡ []
@@ -43,13 +43,13 @@ pub record Writing (b out₀ out : List ℕ) (p at i : ℕ) : Type 0 where
   pub same : length out ≡ length out₀
 
 module _ (b out₀ out : List ℕ) (p at i : ℕ) (w : Writing b out₀ out p at i) where
-  pub line-room : i < accounts b → p + length (linesOf 0 (decode b)) ≤ length out₀ → at + length (lineOf i (accountOf b i)) ≤ length out
+  pub line-room : i < accounts b → p + length (linesOf 0 (decode b)) ≤ length out₀ → at + length (lineOf i (bookAccount b i)) ≤ length out
   line-room h r =
-      omega (arith, w .end, w .same, ap length (next-line b i h), length-append (lineOf i (accountOf b i)) (remaining b (i + 1)))
+      omega (arith, w .end, w .same, ap length (next-line b i h), length-append (lineOf i (bookAccount b i)) (remaining b (i + 1)))
 
-  pub line-stored : (out2 : List ℕ) (at2 : ℕ) → i < accounts b → Put (lineOf i (accountOf b i)) out out2 at at2 → Writing b out₀ out2 p at2 (i + 1)
+  pub line-stored : (out2 : List ℕ) (at2 : ℕ) → i < accounts b → Put (lineOf i (bookAccount b i)) out out2 at at2 → Writing b out₀ out2 p at2 (i + 1)
   line-stored out2 at2 h q =
-      let l = lineOf i (accountOf b i) in
+      let l = lineOf i (bookAccount b i) in
       let n = next-line b i h in
       record {
         bytes = sets-then l (remaining b (i + 1)) out out2 at at2 (q .bytes) (q .end) ∙ (sym (ap (sets out at) n) ∙ w .bytes);
@@ -77,10 +77,10 @@ pub count-begin : (b : List ℕ) → bookRefusal b ≡ 0 → Counting b 0 0
 count-begin b z = record { whole = omega arith; upto = omega arith; small = omega arith; few = book-facts b z .0 .few }
 
 module _ (b : List ℕ) (sum i : ℕ) (c : Counting b sum i) where
-  pub line-counted : (n : ℕ) → i < accounts b → n ≡ length (lineOf i (accountOf b i)) → n ≤ 113 → Counting b (sum + n) (i + 1)
+  pub line-counted : (n : ℕ) → i < accounts b → n ≡ length (lineOf i (bookAccount b i)) → n ≤ 113 → Counting b (sum + n) (i + 1)
   line-counted n h e m =
       record {
-        whole = omega (arith, c .whole, e, ap length (next-line b i h), length-append (lineOf i (accountOf b i)) (remaining b (i + 1)));
+        whole = omega (arith, c .whole, e, ap length (next-line b i h), length-append (lineOf i (bookAccount b i)) (remaining b (i + 1)));
         upto = omega arith;
         small = omega (arith, c .small);
         few = c .few;
@@ -110,7 +110,7 @@ module _ (b : List ℕ) where
 
 -- ---- a text that is written whole, or not at all
 module _ (text old : List ℕ) where
-  pub written : (new : List ℕ) (r : ℕ) → length text ≤ length old → Put text old new 0 r → Wrote text old new (Bytes r)
+  pub written : (new : List ℕ) (r : ℕ) → length text ≤ length old → Put text old new 0 r → WroteText text old new (Bytes r)
   written new r h p =
       let f = le-ltb (length old) (length text) h in
       record {
@@ -119,7 +119,7 @@ module _ (text old : List ℕ) where
         bytes = rw f (p .bytes ∙ sets-front text old h);
       }
 
-  pub too-short : length old < length text → Wrote text old old (Refused 22)
+  pub too-short : length old < length text → WroteText text old old (Refused 22)
   too-short h =
       let f = lt-ltb (length old) (length text) h in
       record { number = rw f; written = rw f; bytes = rw f }

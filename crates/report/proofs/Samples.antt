@@ -8,7 +8,7 @@ use Rattle.rules.specs.Table.{refusalBy}
 use Rattle.rules.specs.History.{within, total}
 use Rattle.rules.specs.Range.{inRange}
 use Rattle.little.specs.Little.{num, un, le}
-use Rattle.layout.specs.Book.{AccountList, encode}
+use Rattle.bookformat.specs.Book.{AccountList, encode}
 use Rattle.text.specs.Decimal.{width, decimal}
 use Rattle.report.specs.Report.{lineOf, listing, refusedText, textOf}
 

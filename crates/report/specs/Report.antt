@@ -15,7 +15,7 @@ use Rattle.rules.specs.Money.{owed, openItems}
 use Rattle.rules.specs.Service.{service, wordOf}
 use Rattle.rules.specs.Accepted.{accepted}
 use Rattle.text.specs.Decimal.{decimal, signed}
-use Rattle.layout.specs.Book.{AccountList, mostAccounts, bookRefusal, decode}
+use Rattle.bookformat.specs.Book.{AccountList, mostAccounts, bookRefusal, decode}
 use Rattle.report.specs.declared.Printed.{Printed}
 use Rattle.report.specs.declared.Printed.the-variants.{Bytes, Refused}
 
@@ -69,8 +69,8 @@ inputText b = cond (ltb 65536 (length b)) (refusedText 20) (textOf b)
 abbrev pub roomFor : ℕ → ℕ
 roomFor n = 39 + 113 * n
 
-abbrev pub room : ℕ
-room = roomFor mostAccounts
+abbrev pub mostRoom : ℕ
+mostRoom = roomFor mostAccounts
 
 -- ---- the answer, as document 01's number and value, by cases
 -- the number that refuses, 0 where the text is written
@@ -102,11 +102,11 @@ printedIn text old = cond (shortFor text old) old (text ++ drop (length text) ol
 
 -- what writing a text does: its answer, by number and bytes, and every byte of the output. No text is empty, so that
 -- number and bytes are those of one answer only (`one-answer` in proofs/Texts.antt)
-pub record Wrote (text old new : List ℕ) (r : Printed) : Type 0 where
+pub record WroteText (text old new : List ℕ) (r : Printed) : Type 0 where
   pub number : printedNumber r ≡ printRefusal text old
   pub written : printedBytes r ≡ printLength text old
   pub bytes : new ≡ printedIn text old
 
 -- what a report of the bytes b does
 abbrev pub Reported : List ℕ → List ℕ → List ℕ → Printed → Type 0
-Reported b old new r = Wrote (textOf b) old new r
+Reported b old new r = WroteText (textOf b) old new r

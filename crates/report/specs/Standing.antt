@@ -36,15 +36,15 @@ standingOn m refused =
     }
 
 -- a word and the byte after it
-abbrev pub marked : List ℕ → ℕ → List ℕ
-marked w m = w ++ (m ∷ [])
+abbrev pub followed : List ℕ → ℕ → List ℕ
+followed w m = w ++ (m ∷ [])
 
 -- index, owed and held; open items, service and refused count
 abbrev pub moneyPart : ℕ → Standing → List ℕ
-moneyPart i s = marked (decimal i) 32 ++ (marked (signed (subℕ (s .charged) (s .credits))) 32 ++ marked (decimal (s .held)) 32)
+moneyPart i s = followed (decimal i) 32 ++ (followed (signed (subℕ (s .charged) (s .credits))) 32 ++ followed (decimal (s .held)) 32)
 
 abbrev pub statePart : Standing → List ℕ
-statePart s = marked (decimal (s .«open_count»)) 32 ++ (marked (wordOf (s .service)) 32 ++ marked (decimal (s .refused)) 10)
+statePart s = followed (decimal (s .«open_count»)) 32 ++ (followed (wordOf (s .service)) 32 ++ followed (decimal (s .refused)) 10)
 
 unfoldable pub standingLine : ℕ → Standing → List ℕ
 standingLine i s = moneyPart i s ++ statePart s

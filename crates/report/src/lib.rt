@@ -20,12 +20,12 @@ ghost use Prim.Native.Nat.{_+_, _*_, _≤_, _<_};
 ghost use lib.Dec.{ltb};
 ghost use lib.ListN.{length};
 ghost use Rattle.rules.specs.Accepted.{accepted};
-ghost use Rattle.layout.specs.Book.{accounts, bookRefusal, decode};
-ghost use Rattle.layout.specs.Finding.{accountOf};
+ghost use Rattle.bookformat.specs.Book.{accounts, bookRefusal, decode};
+ghost use Rattle.bookformat.specs.Finding.{bookAccount};
 ghost use Rattle.text.specs.Put.{Put};
 ghost use Rattle.account.specs.State.{accountSize};
 ghost use Rattle.report.specs.Standing.{Stands, standingOn};
-ghost use Rattle.report.specs.Report.{lineOf, linesOf, listing, refusedText, inputText, printedBytes, Wrote, Reported};
+ghost use Rattle.report.specs.Report.{lineOf, linesOf, listing, refusedText, inputText, printedBytes, WroteText, Reported};
 
 // Room for every text: 39 bytes for the heading, and at most 113 for each of 1,024 accounts.
 pub const ROOM: usize = 39 + 113 * 1024;
@@ -61,63 +61,9 @@ impl Printed {
 }
 
 // The first line.
-const HEADING: [u8; 39] = [
-    b'a',
-    b'c',
-    b'c',
-    b'o',
-    b'u',
-    b'n',
-    b't',
-    b' ',
-    b'o',
-    b'w',
-    b'e',
-    b'd',
-    b' ',
-    b'h',
-    b'e',
-    b'l',
-    b'd',
-    b' ',
-    b'o',
-    b'p',
-    b'e',
-    b'n',
-    b' ',
-    b's',
-    b'e',
-    b'r',
-    b'v',
-    b'i',
-    b'c',
-    b'e',
-    b' ',
-    b'r',
-    b'e',
-    b'f',
-    b'u',
-    b's',
-    b'e',
-    b'd',
-    b'\n',
-];
+const HEADING: [u8; 39] = *b"account owed held open service refused\n";
 
-const BOOK_REFUSED: [u8; 13] = [
-    b'b',
-    b'o',
-    b'o',
-    b'k',
-    b' ',
-    b'r',
-    b'e',
-    b'f',
-    b'u',
-    b's',
-    b'e',
-    b'd',
-    b' ',
-];
+const BOOK_REFUSED: [u8; 13] = *b"book refused ";
 
 // Where the account in memory m stands, of whose records so many were refused.
 fn standing_in(m: &[u64], refused: u64) -> Standing
@@ -141,7 +87,7 @@ fn standing_in(m: &[u64], refused: u64) -> Standing
 // Where account i of an accepted book stands: it is posted in memory of this function's own.
 fn standing_of(b: &[u8], i: usize) -> Standing
     requires { ⌜ bookRefusal (now b) ≡ 0 ⌝ }
-    ensures { λ r. ⌜ Stands r (accountOf (now (b .entry)) i) (accepted (accountOf (now (b .entry)) i)) ⌝ }
+    ensures { λ r. ⌜ Stands r (bookAccount (now (b .entry)) i) (accepted (bookAccount (now (b .entry)) i)) ⌝ }
 {
     let account = Account::fresh();
     let mut memory = account.memory;
@@ -151,8 +97,8 @@ fn standing_of(b: &[u8], i: usize) -> Standing
 
 // Stores the line of account i, and says where the text goes on.
 fn put_account(b: &[u8], i: usize, out: &mut [u8], p: usize) -> usize
-    requires { ⌜ (bookRefusal (now b) ≡ 0) × (p + length (lineOf i (accountOf (now b) i)) ≤ length (now out)) ⌝ }
-    ensures { λ r. ⌜ Put (lineOf i (accountOf (now (b .entry)) i)) (now (out .entry)) (now (out .exit)) p r ⌝ }
+    requires { ⌜ (bookRefusal (now b) ≡ 0) × (p + length (lineOf i (bookAccount (now b) i)) ≤ length (now out)) ⌝ }
+    ensures { λ r. ⌜ Put (lineOf i (bookAccount (now (b .entry)) i)) (now (out .entry)) (now (out .exit)) p r ⌝ }
 {
     let s = standing_of(b, i);
     put_line(out, p, i as u64, s)
@@ -175,7 +121,7 @@ fn put_lines(b: &[u8], n: usize, out: &mut [u8], p: usize) -> usize
 // How long the line of account i is, 113 bytes at most.
 fn account_length(b: &[u8], i: usize) -> usize
     requires { ⌜ bookRefusal (now b) ≡ 0 ⌝ }
-    ensures { λ r. ⌜ (r ≡ length (lineOf i (accountOf (now (b .entry)) i))) × (r ≤ 113) ⌝ }
+    ensures { λ r. ⌜ (r ≡ length (lineOf i (bookAccount (now (b .entry)) i))) × (r ≤ 113) ⌝ }
 {
     let s = standing_of(b, i);
     line_length(i as u64, s)
@@ -218,7 +164,7 @@ fn put_listing(b: &[u8], n: usize, out: &mut [u8]) -> usize
 
 // The text for a book that is refused with n.
 fn put_refusal(out: &mut [u8], n: u8) -> Printed
-    ensures { λ r. ⌜ Wrote (refusedText n) (now (out .entry)) (now (out .exit)) r ⌝ }
+    ensures { λ r. ⌜ WroteText (refusedText n) (now (out .entry)) (now (out .exit)) r ⌝ }
 {
     let number = n as u64;
     if out.len() < 14 + width(number) {
@@ -246,7 +192,7 @@ pub fn report(b: &[u8], out: &mut [u8]) -> Printed
 
 // The same for what the program `standing` read: more than 65,536 bytes are refused with 20.
 pub fn report_input(b: &[u8], out: &mut [u8]) -> Printed
-    ensures { λ r. ⌜ Wrote (inputText (now (b .entry))) (now (out .entry)) (now (out .exit)) r ⌝ }
+    ensures { λ r. ⌜ WroteText (inputText (now (b .entry))) (now (out .entry)) (now (out .exit)) r ⌝ }
 {
     if 65_536 < b.len() {
         return put_refusal(out, 20);

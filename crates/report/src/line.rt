@@ -31,15 +31,15 @@ fn put_word(out: &mut [u8], p: usize, s: Service) -> usize
 {
     match s {
         Service::On => {
-            let word = [b'o', b'n', b' '];
+            let word = *b"on ";
             put_bytes(out, p, &word)
         }
         Service::Off => {
-            let word = [b'o', b'f', b'f', b' '];
+            let word = *b"off ";
             put_bytes(out, p, &word)
         }
         Service::Closed => {
-            let word = [b'c', b'l', b'o', b's', b'e', b'd', b' '];
+            let word = *b"closed ";
             put_bytes(out, p, &word)
         }
     }

@@ -35,8 +35,8 @@ returned t r = event kinds.returnedPayment t 0 r
 abbrev pub fee : ℕ → ℕ → Event
 fee t n = event kinds.fee t n 0
 
-abbrev pub asked : ℕ → ℕ → Event
-asked t a = event kinds.depositAsked t 0 a
+abbrev pub askedDeposit : ℕ → ℕ → Event
+askedDeposit t a = event kinds.depositAsked t 0 a
 
 abbrev pub paid : ℕ → ℕ → Event
 paid t a = event kinds.depositPaid t 0 a
@@ -62,8 +62,8 @@ notice t = event kinds.finalNotice t 0 0
 abbrev pub call : ℕ → Event
 call t = event kinds.call t 0 0
 
-abbrev pub cut : ℕ → Event
-cut t = event kinds.disconnection t 0 0
+abbrev pub cutOff : ℕ → Event
+cutOff t = event kinds.disconnection t 0 0
 
 abbrev pub reconnection : ℕ → ℕ → Event
 reconnection t o = event kinds.reconnection t o 0

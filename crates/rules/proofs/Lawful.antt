@@ -16,7 +16,7 @@ use Rattle.rules.specs.Deposit.{held}
 use Rattle.rules.specs.Money.{credited, credits, charged, owed}
 use Rattle.rules.specs.Sums.{lateCharges, feesCharged, returnedPayments}
 use Rattle.rules.specs.Answer.{numberOf, receiptOf}
-use Rattle.rules.specs.Accepted.{viewOf, refusal, offered, acceptedAfter, accepted, Lawful, answer, answersAfter, refusalsAfter, receiptsAfter, receiptAfter}
+use Rattle.rules.specs.Accepted.{viewOf, refusal, offered, acceptedAfter, accepted, Lawful, answer, answersAfter, refusalsAfter, receiptsGiven, receiptAfter}
 use Rattle.rules.proofs.Sums.{total-grows, credited-step, deposits, charged-parts}
 use Rattle.rules.proofs.Passed.{passed}
 use Rattle.rules.proofs.Room.{payout-in}
@@ -43,7 +43,7 @@ pub numbers-are : (h : History) (es : List Event) → map numberOf (answersAfter
 numbers-are h [] = refl
 numbers-are h (e ∷ es) = rw (number-of h e) (ap (λ l. refusal h e ∷ l) (numbers-are (offered h e) es))
 
-pub receipts-are : (h : History) (es : List Event) → map receiptOf (answersAfter h es) ≡ receiptsAfter h es
+pub receipts-are : (h : History) (es : List Event) → map receiptOf (answersAfter h es) ≡ receiptsGiven h es
 receipts-are h [] = refl
 receipts-are h (e ∷ es) =
     rw (receipt-of h e) (ap (λ l. cond (eqb (refusal h e) 0) (receiptAfter h e) 0 ∷ l) (receipts-are (offered h e) es))

@@ -95,9 +95,9 @@ abbrev pub refusalsAfter : History → List Event → List ℕ
 refusalsAfter h [] = []
 refusalsAfter h (e ∷ es) = refusal h e ∷ refusalsAfter (offered h e) es
 
-abbrev pub receiptsAfter : History → List Event → List ℕ
-receiptsAfter h [] = []
-receiptsAfter h (e ∷ es) = cond (eqb (refusal h e) 0) (receiptAfter h e) 0 ∷ receiptsAfter (offered h e) es
+abbrev pub receiptsGiven : History → List Event → List ℕ
+receiptsGiven h [] = []
+receiptsGiven h (e ∷ es) = cond (eqb (refusal h e) 0) (receiptAfter h e) 0 ∷ receiptsGiven (offered h e) es
 
 -- a well-formed disconnection on t
 abbrev pub cutOn : ℕ → Event

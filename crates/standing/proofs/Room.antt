@@ -8,11 +8,11 @@ use borrow.Author.Tests.{le-ltb}
 use lib.ListN.{length, take, drop, length-append}
 use lib.Seq.{take-at}
 use Rattle.report.specs.declared.Printed.{Printed}
-use Rattle.report.specs.Report.{inputText, room, printedBytes, shortFor, Wrote}
+use Rattle.report.specs.Report.{inputText, mostRoom, printedBytes, shortFor, WroteText}
 use Rattle.report.proofs.Texts.{input-sized}
 use Rattle.standing.specs.Program.{Prints}
 
-pub prints : (b old new : List ℕ) (r : Printed) → room ≤ length old → Wrote (inputText b) old new r → Prints b old new (printedBytes r)
+pub prints : (b old new : List ℕ) (r : Printed) → mostRoom ≤ length old → WroteText (inputText b) old new r → Prints b old new (printedBytes r)
 prints b old new r h w =
     let q : shortFor (inputText b) old ≡ false = le-ltb (length old) (length (inputText b)) (omega (arith, input-sized b .fits)) in
     let n : printedBytes r ≡ length (inputText b) = rw q at (w .written) in

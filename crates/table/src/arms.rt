@@ -29,7 +29,7 @@ pub fn credit_rows(credited: u64, credit: u64) -> u8
 pub fn over_row(a: u64, b: u64, amount: u64) -> u8
     ensures { λ r. ⌜ r ≡ cond (ltb (a - b) amount) 7 0 ⌝ }
 {
-    basics::select8(basics::less(a, b) < amount, 7, 0)
+    basics::select8(basics::minus_or_zero(a, b) < amount, 7, 0)
 }
 
 // 6: the receipt is not known, or was returned; then 18 and 19.

@@ -11,7 +11,7 @@ use Rattle.amounts.proofs.charge.Tie as tie
 returns : tie.Need-returns
 returns c =
     let start = c .before .before .before .before in
-    rw (c .plus .ensures, c .before .late-charge .ensures, c .before .before .less .ensures) (charge-bill (start .args .v) (start .args .e) (c .before .before .before .match .keys1))
+    rw (c .plus .ensures, c .before .late-charge .ensures, c .before .before .minus-or-zero .ensures) (charge-bill (start .args .v) (start .args .e) (c .before .before .before .match .keys1))
 
 returns-2 : tie.Need-returns-2
 returns-2 c =

@@ -3,9 +3,9 @@ use native.Mathlib.Omega.{arith}
 use borrow.Author.Needs.{needs}
 use borrow.Author.Tests.{le-ltb, lt-ltb}
 use lib.ListN.{length}
-use Rattle.layout.specs.Book.{base, accounts}
-use Rattle.layout.specs.Finding.{entries}
-use Rattle.layout.proofs.Found.{entries-some, account-told}
+use Rattle.bookformat.specs.Book.{base, accounts}
+use Rattle.bookformat.specs.Finding.{entries}
+use Rattle.bookformat.proofs.Found.{entries-some, account-told}
 use Rattle.book.proofs.account.Statement.{statement}
 use Rattle.book.proofs.account.Tie as tie
 

@@ -2,8 +2,8 @@ use mathlib.Core.Path.{_≡_, sym, _∙_}
 use native.Mathlib.Omega.{arith}
 use borrow.Author.Tests.{not-true, not-false}
 use Rattle.little.specs.Little.{num}
-use Rattle.layout.specs.Facts.{Header}
-use Rattle.layout.proofs.Told.{header-facts}
+use Rattle.bookformat.specs.Facts.{Header}
+use Rattle.bookformat.proofs.Told.{header-facts}
 use borrow.Author.Needs.{needs}
 use Rattle.book.proofs.book_refusal.Statement.{statement}
 use Rattle.book.proofs.book_refusal.Tie as tie

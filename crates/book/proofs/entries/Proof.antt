@@ -2,7 +2,7 @@ use native.Mathlib.Omega.{arith}
 use borrow.Author.Needs.{needs}
 use borrow.Author.Tests.{le-leb, lt-leb}
 use lib.ListN.{length}
-use Rattle.layout.specs.Book.{base, accounts}
+use Rattle.bookformat.specs.Book.{base, accounts}
 use Rattle.book.proofs.entries.Statement.{statement}
 use Rattle.book.proofs.entries.Tie as tie
 

@@ -2,7 +2,7 @@ use Prim.Native.Nat.{_+_, _*_}
 use native.Mathlib.Omega.{arith}
 use borrow.Author.Tests.{le-leb, lt-leb, eq-eqb, ne-eqb}
 use lib.ListN.{length}
-use Rattle.layout.specs.Book.{base, accounts, records}
+use Rattle.bookformat.specs.Book.{base, accounts, records}
 use borrow.Author.Needs.{needs}
 use Rattle.book.proofs.header_fine.Statement.{statement}
 use Rattle.book.proofs.header_fine.Tie as tie

@@ -3,8 +3,8 @@ use mathlib.Core.Path.{_≡_, sym, _∙_}
 use native.Mathlib.Omega.{arith}
 use borrow.Author.Needs.{needs}
 use borrow.Author.Tests.{not-true, not-false}
-use Rattle.layout.specs.Book.{recordsFine}
-use Rattle.layout.proofs.Tests.{and-on, and-off}
+use Rattle.bookformat.specs.Book.{recordsFine}
+use Rattle.bookformat.proofs.Tests.{and-on, and-off}
 use Rattle.book.proofs.records_fine.Statement.{statement}
 use Rattle.book.proofs.records_fine.Tie as tie
 

@@ -3,8 +3,8 @@ use mathlib.Core.Path.{_≡_, sym, _∙_}
 use native.Mathlib.Omega.{arith}
 use borrow.Author.Needs.{needs}
 use borrow.Author.Tests.{eq-eqb, ne-eqb}
-use Rattle.layout.specs.Book.{tableFine, base}
-use Rattle.layout.proofs.Tests.{and-on, and-off}
+use Rattle.bookformat.specs.Book.{tableFine, base}
+use Rattle.bookformat.proofs.Tests.{and-on, and-off}
 use Rattle.book.proofs.table_fine.Statement.{statement}
 use Rattle.book.proofs.table_fine.Tie as tie
 

@@ -1,5 +1,5 @@
 use mathlib.Core.Path.{refl, sym, _∙_}
-use Rattle.layout.proofs.Told.{stopped, unchanged}
+use Rattle.bookformat.proofs.Told.{stopped, unchanged}
 use Rattle.bookpost.proofs.Noting.{history-room, history-told}
 use borrow.Author.Needs.{needs}
 use Rattle.bookpost.proofs.history.Statement.{statement}

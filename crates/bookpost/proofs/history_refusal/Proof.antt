@@ -1,5 +1,5 @@
 use mathlib.Core.Path.{_≡_, sym, _∙_}
-use Rattle.layout.specs.Book.{bookRefusal}
+use Rattle.bookformat.specs.Book.{bookRefusal}
 use Rattle.bookpost.proofs.Noting.{span-length, or-first}
 use borrow.Author.Needs.{needs}
 use Rattle.bookpost.proofs.history_refusal.Statement.{statement}

@@ -3,20 +3,20 @@ use mathlib.Core.Path.{_≡_, sym, ap, _∙_}
 use native.Mathlib.Omega.{arith}
 use lib.ListN.{length}
 use borrow.Author.Needs.{needs}
-use Rattle.layout.specs.Book.{accounts, base, eventAt}
-use Rattle.layout.proofs.Told.{book-facts}
-use Rattle.layout.proofs.Found.{record-at}
+use Rattle.bookformat.specs.Book.{accounts, base, eventAt}
+use Rattle.bookformat.proofs.Told.{book-facts}
+use Rattle.bookformat.proofs.Found.{record-at}
 use Rattle.claim.specs.Claim.{accepts}
 use Rattle.claim.proofs.Walk.{walked-size, one-at-most}
-use Rattle.bookpost.proofs.Posting.{Turning, start, fit, turn, finish}
+use Rattle.bookpost.proofs.Posting.{Turning, turning-begun, fit, turn, finish}
 use Rattle.bookpost.proofs.run_account.Statement.{statement}
 use Rattle.bookpost.proofs.run_account.Tie as tie
 
 abbrev Inv-loop : tie.InvT-loop
-Inv-loop b i m₀ start k₀ left₀ refused₀ m k left refused = Turning b i k left m refused
+Inv-loop b i m₀ turning-begun k₀ left₀ refused₀ m k left refused = Turning b i k left m refused
 
 abbrev μ-loop : tie.MeasureT-loop
-μ-loop b i m₀ start k₀ left₀ refused₀ m k left refused = left
+μ-loop b i m₀ turning-begun k₀ left₀ refused₀ m k left refused = left
 
 get-requires : tie.Need-get-requires Inv-loop μ-loop
 get-requires c κs =
@@ -27,7 +27,7 @@ loop-holds : tie.Need-loop-holds Inv-loop μ-loop
 loop-holds c =
     let a = c .before .account in
     let s = c .before .before .before .before in
-    start _ _ (a .result) (s .args .m .now) (a .ensures .1 (s .pre .0)) (s .pre .1)
+    turning-begun _ _ (a .result) (s .args .m .now) (a .ensures .1 (s .pre .0)) (s .pre .1)
 
 mul-event-at : tie.Need-mul-event-at Inv-loop μ-loop
 mul-event-at c =

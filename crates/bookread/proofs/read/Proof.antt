@@ -1,7 +1,7 @@
 use mathlib.Core.Path.{refl, sym, _∙_}
-use Rattle.layout.specs.Book.{decode}
-use Rattle.layout.proofs.Told.{read-facts, stopped}
-use Rattle.layout.proofs.Stored.{kept-all}
+use Rattle.bookformat.specs.Book.{decode}
+use Rattle.bookformat.proofs.Told.{read-facts, stopped}
+use Rattle.bookformat.proofs.Stored.{kept-all}
 use borrow.Author.Needs.{needs}
 use Rattle.bookread.proofs.read.Statement.{statement}
 use Rattle.bookread.proofs.read.Tie as tie

@@ -2,8 +2,8 @@ use mathlib.Core.Path.{sym, _∙_}
 use mathlib.Core.Bool.{true, false}
 use native.Mathlib.Omega.{arith}
 use borrow.Author.Needs.{needs}
-use Rattle.layout.specs.Facts.{Header}
-use Rattle.layout.proofs.Told.{book-facts, or-stop, read-as}
+use Rattle.bookformat.specs.Facts.{Header}
+use Rattle.bookformat.proofs.Told.{book-facts, or-stop, read-as}
 use Rattle.bookread.proofs.read_refusal.Statement.{statement}
 use Rattle.bookread.proofs.read_refusal.Tie as tie
 

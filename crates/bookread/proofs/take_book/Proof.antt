@@ -1,4 +1,4 @@
-use Rattle.layout.proofs.Stored.{gave-all}
+use Rattle.bookformat.proofs.Stored.{gave-all}
 use borrow.Author.Needs.{needs}
 use Rattle.bookread.proofs.take_book.Statement.{statement}
 use Rattle.bookread.proofs.take_book.Tie as tie

@@ -5,7 +5,7 @@ use native.Mathlib.Numerals.{add-one}
 use borrow.Author.Needs.{needs}
 use lib.ListN.{length}
 use lib.Seq.{sets}
-use Rattle.layout.specs.Book.{base, countsAt}
+use Rattle.bookformat.specs.Book.{base, countsAt}
 use Rattle.bookread.proofs.take_counts.Statement.{statement}
 use Rattle.bookread.proofs.take_counts.Tie as tie
 

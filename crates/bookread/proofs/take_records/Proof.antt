@@ -5,8 +5,8 @@ use native.Mathlib.Numerals.{add-one}
 use borrow.Author.Needs.{needs}
 use lib.ListN.{length}
 use lib.Seq.{sets}
-use Rattle.layout.specs.Book.{eventsAt}
-use Rattle.layout.specs.Lent.{kindsOf, optionsOf, daysOf, amountsOf}
+use Rattle.bookformat.specs.Book.{eventsAt}
+use Rattle.bookformat.specs.Lent.{kindsOf, optionsOf, daysOf, amountsOf}
 use Rattle.bookread.proofs.take_records.Statement.{statement}
 use Rattle.bookread.proofs.take_records.Tie as tie
 

@@ -4,8 +4,8 @@ use native.Mathlib.Omega.{arith}
 use borrow.Author.Needs.{needs}
 use borrow.Author.Tests.{not-true, not-false}
 use lib.ListN.{length}
-use Rattle.layout.specs.Lent.{kindsFine}
-use Rattle.layout.proofs.Tests.{and-on, and-off}
+use Rattle.bookformat.specs.Lent.{kindsFine}
+use Rattle.bookformat.proofs.Tests.{and-on, and-off}
 use Rattle.bookwrite.proofs.kinds_fine.Statement.{statement}
 use Rattle.bookwrite.proofs.kinds_fine.Tie as tie
 

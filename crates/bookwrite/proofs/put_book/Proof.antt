@@ -6,10 +6,10 @@ use lib.ListN.{length, length-append}
 use Rattle.little.specs.Little.{le}
 use Rattle.little.proofs.Numbers.{length-le}
 use Rattle.little.proofs.Stores.{sets-then}
-use Rattle.layout.specs.Book.{base, table, body}
-use Rattle.layout.specs.Lent.{lent}
-use Rattle.layout.proofs.Trips.{length-table}
-use Rattle.layout.proofs.Stored.{length-lent}
+use Rattle.bookformat.specs.Book.{base, accountTable, body}
+use Rattle.bookformat.specs.Lent.{lent}
+use Rattle.bookformat.proofs.Trips.{length-table}
+use Rattle.bookformat.proofs.Stored.{length-lent}
 use borrow.Author.Needs.{needs}
 use Rattle.bookwrite.proofs.put_book.Statement.{statement}
 use Rattle.bookwrite.proofs.put_book.Tie as tie
@@ -20,7 +20,7 @@ returns c =
     let cs = s .counts .now in
     let n = length (s .kinds .now) in
     let es = lent n 0 (s .kinds .now) (s .options .now) (s .days .now) (s .amounts .now) in
-    let t = table (base (length cs)) cs in
+    let t = accountTable (base (length cs)) cs in
     let head = le 4 (length cs) ++ le 4 n in
     let o1 = c .before .before .before .before .before .before .before .before .before .before .put-entry .last .0 in
     let o2 = c .before .before .before .before .before .before .put-table .last .1 .0 in

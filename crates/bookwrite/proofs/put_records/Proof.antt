@@ -6,8 +6,8 @@ use lib.ListN.{length, length-append}
 use lib.Seq.{sets}
 use Rattle.little.proofs.Numbers.{length-le}
 use Rattle.little.proofs.Stores.{sets-then}
-use Rattle.layout.specs.Book.{body, recordBytes}
-use Rattle.layout.specs.Lent.{lent, lentAt}
+use Rattle.bookformat.specs.Book.{body, recordBytes}
+use Rattle.bookformat.specs.Lent.{lent, lentAt}
 use Rattle.bookwrite.proofs.put_records.Statement.{statement}
 use Rattle.bookwrite.proofs.put_records.Tie as tie
 

@@ -9,12 +9,12 @@ use lib.Seq.{drop-cons, sets}
 use Rattle.little.specs.Little.{le}
 use Rattle.little.proofs.Numbers.{length-le}
 use Rattle.little.proofs.Stores.{sets-then}
-use Rattle.layout.specs.Book.{base, table}
+use Rattle.bookformat.specs.Book.{base, accountTable}
 use Rattle.bookwrite.proofs.put_table.Statement.{statement}
 use Rattle.bookwrite.proofs.put_table.Tie as tie
 
 abbrev Inv-loop : tie.InvT-loop
-Inv-loop counts out₀ first₀ at₀ i₀ out first at i = (sets out at (table first (drop i counts)) ≡ sets out₀ 8 (table (base (length counts)) counts))
+Inv-loop counts out₀ first₀ at₀ i₀ out first at i = (sets out at (accountTable first (drop i counts)) ≡ sets out₀ 8 (accountTable (base (length counts)) counts))
     × (at ≡ 8 + 8 * i) × (i ≤ length counts) × (first ≤ 8 + 8 * length counts + 68719476736 * i) × (length out ≡ length out₀)
 
 abbrev μ-loop : tie.MeasureT-loop
@@ -31,7 +31,7 @@ loop-again c =
     let d : drop (l .i) cs ≡ n ∷ rest = rw (add-one, w) (drop-cons cs (l .i) 0 (omega arith)) in
     let o2 = c .before .before .put-entry .last .0 in
     let q : l .at + 8 ≡ l .at + length (le 4 (l .first) ++ le 4 n) = simp (length-append, length-le) in (
-      sets-then (le 4 (l .first) ++ le 4 n) (table (l .first + 16 * n) rest) (l .out) o2 (l .at) (l .at + 8) (c .before .before .put-entry .ensures) q
+      sets-then (le 4 (l .first) ++ le 4 n) (accountTable (l .first + 16 * n) rest) (l .out) o2 (l .at) (l .at + 8) (c .before .before .put-entry .ensures) q
           ∙ rw append-assoc (rw d at (l .inv .0)),
       omega arith,
       omega arith,

@@ -3,8 +3,8 @@ use mathlib.Core.Path.{sym, _∙_}
 use native.Mathlib.Omega.{arith}
 use borrow.Author.Tests.{le-leb, lt-leb}
 use lib.ListN.{length}
-use Rattle.layout.specs.Book.{base}
-use Rattle.layout.proofs.Tests.{and-on}
+use Rattle.bookformat.specs.Book.{base}
+use Rattle.bookformat.proofs.Tests.{and-on}
 use borrow.Author.Needs.{needs}
 use Rattle.bookwrite.proofs.sizes_fine.Statement.{statement}
 use Rattle.bookwrite.proofs.sizes_fine.Tie as tie

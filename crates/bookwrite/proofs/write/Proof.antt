@@ -1,8 +1,8 @@
 use mathlib.Core.Path.{refl, sym, ap, _∙_}
-use Rattle.layout.specs.Book.{encode}
-use Rattle.layout.specs.Lent.{lentList, after}
-use Rattle.layout.proofs.Told.{write-facts, stopped, unchanged}
-use Rattle.layout.proofs.Stored.{wrote-all}
+use Rattle.bookformat.specs.Book.{encode}
+use Rattle.bookformat.specs.Lent.{lentList, after}
+use Rattle.bookformat.proofs.Told.{write-facts, stopped, unchanged}
+use Rattle.bookformat.proofs.Stored.{wrote-all}
 use borrow.Author.Needs.{needs}
 use Rattle.bookwrite.proofs.write.Statement.{statement}
 use Rattle.bookwrite.proofs.write.Tie as tie

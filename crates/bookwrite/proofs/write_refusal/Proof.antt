@@ -3,9 +3,9 @@ use mathlib.Core.Path.{sym, _∙_}
 use native.Mathlib.Omega.{arith}
 use borrow.Author.Tests.{le-leb, lt-leb, not-true, not-false}
 use lib.ListN.{length}
-use Rattle.layout.specs.Book.{base}
-use Rattle.layout.specs.Facts.{Sizes}
-use Rattle.layout.proofs.Told.{sizes-facts}
+use Rattle.bookformat.specs.Book.{base}
+use Rattle.bookformat.specs.Facts.{Sizes}
+use Rattle.bookformat.proofs.Told.{sizes-facts}
 use borrow.Author.Needs.{needs}
 use Rattle.bookwrite.proofs.write_refusal.Statement.{statement}
 use Rattle.bookwrite.proofs.write_refusal.Tie as tie

@@ -6,7 +6,7 @@ use Rattle.deposit.proofs.in_year.Tie as tie
 
 returns : tie.Need-returns
 unfolding inYearBy
-returns c = rw (c .less .ensures, at-most-since)
+returns c = rw (c .minus-or-zero .ensures, at-most-since)
 
 pub in-year-spec : {M : Type 1} → statement M
 in-year-spec =

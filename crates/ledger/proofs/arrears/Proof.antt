@@ -25,7 +25,7 @@ loop-again : tie.Need-loop-again Inv-loop μ-loop
 loop-again c =
     let day = c .before .before .before .day-of in
     let upto = c .before .before .before .before .upto-of in
-    let amount = c .before .before .less in
+    let amount = c .before .before .minus-or-zero in
     let test = c .before .before .before .before .before in
     let l = test .before .loop in
     let q = test .before .before .before .before .before in

@@ -3,7 +3,7 @@ use Rattle.ledger.proofs.head_ok.Statement.{statement}
 use Rattle.ledger.proofs.head_ok.Tie as tie
 
 returns : tie.Need-returns
-returns c = rw (c .less .ensures)
+returns c = rw (c .minus-or-zero .ensures)
 
 pub head-ok-spec : {M : Type 1} → statement M
 head-ok-spec =

@@ -7,7 +7,7 @@ use Rattle.ledger.proofs.open_item.Tie as tie
 returns : tie.Need-returns
 returns c =
     let q = c .before .before .before .before .before in
-    past-open (ledgerOn (q .args .w .now)) (q .args .i) (rw (c .before .less .ensures) at (c .if1 .taken))
+    past-open (ledgerOn (q .args .w .now)) (q .args .i) (rw (c .before .minus-or-zero .ensures) at (c .if1 .taken))
 
 add-day-of : tie.Need-add-day-of
 add-day-of c = search (needs, c .before .before .shared-slice-known3 .given 3)
@@ -20,8 +20,8 @@ returns-2 c =
     let k = c .before .before .before in
     let q = k .before .before .before in
     let a = q .before .before .before .before .before .args in
-    rw (c .unpaid .ensures, c .before .credits .ensures, c .before .before .less2 .ensures, k .sum-before .ensures, k .before .upto-of .ensures, k .before .before .day-of .ensures)
-    (open-at (ledgerOn (a .w .now)) (a .i) (rw (q .before .less .ensures) at (q .if1 .left)))
+    rw (c .unpaid .ensures, c .before .credits .ensures, c .before .before .minus-or-zero2 .ensures, k .sum-before .ensures, k .before .upto-of .ensures, k .before .before .day-of .ensures)
+    (open-at (ledgerOn (a .w .now)) (a .i) (rw (q .before .minus-or-zero .ensures) at (q .if1 .left)))
 
 pub open-item-spec : {M : Type 1} → statement M
 open-item-spec =

@@ -3,7 +3,7 @@ use Rattle.ledger.proofs.sums_of.Statement.{statement}
 use Rattle.ledger.proofs.sums_of.Tie as tie
 
 returns : tie.Need-returns
-returns c = rw (c .less .ensures, c .before .before .before .credits .ensures)
+returns c = rw (c .minus-or-zero .ensures, c .before .before .before .credits .ensures)
 
 pub sums-of-spec : {M : Type 1} → statement M
 sums-of-spec =

@@ -1,6 +1,6 @@
 use mathlib.Core.Path.{sym}
 use native.Mathlib.Omega.{arith}
-use Rattle.layout.proofs.Told.{book-facts}
+use Rattle.bookformat.proofs.Told.{book-facts}
 use Rattle.report.proofs.Listing.{plenty, counted}
 use borrow.Author.Needs.{needs}
 use Rattle.report.proofs.is_short.Statement.{statement}

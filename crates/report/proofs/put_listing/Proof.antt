@@ -1,5 +1,5 @@
 use native.Mathlib.Omega.{arith}
-use Rattle.layout.specs.Book.{decode}
+use Rattle.bookformat.specs.Book.{decode}
 use Rattle.text.proofs.Numerals.{put-then, room-then}
 use Rattle.report.specs.Report.{heading, linesOf, listing}
 use Rattle.report.proofs.Listing.{header-room}

@@ -1,8 +1,8 @@
 use mathlib.Core.Path.{_≡_, sym, ap, _∙_}
 use native.Mathlib.Omega.{arith}
 use borrow.Author.Tests.{ltb-true, ltb-false}
-use Rattle.layout.specs.Book.{bookRefusal}
-use Rattle.layout.proofs.Told.{book-facts}
+use Rattle.bookformat.specs.Book.{bookRefusal}
+use Rattle.bookformat.proofs.Told.{book-facts}
 use Rattle.report.specs.Report.{listing, refusedText, textBy}
 use Rattle.report.proofs.Listing.{written, too-short, refused-as}
 use borrow.Author.Needs.{needs}

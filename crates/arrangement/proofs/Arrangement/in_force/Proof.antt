@@ -11,7 +11,7 @@ mul-lesser c =
     let s = w .before .before in
     let a = s .args .self in
     let b = instalments (a .debt) (a .parts) (a .day) (s .args .t) (s .pre .debt-le) (s .pre .parts-le) (w .if1 .taken) in
-    rw (c .less .ensures) (omega (arith, b))
+    rw (c .minus-or-zero .ensures) (omega (arith, b))
 
 returns : tie.Need-returns
 returns c =

@@ -7,7 +7,7 @@ use Rattle.deposit.proofs.Deposit.earned.Tie as tie
 returns : tie.Need-returns
 returns c =
     let s = c .before .before .before .before .args in
-    rw (c .quiet .ensures, c .before .less .ensures, at-least-since (s .self .«full_on») 365 (s .t) (omega arith), c .before .before .is-full .ensures)
+    rw (c .quiet .ensures, c .before .minus-or-zero .ensures, at-least-since (s .self .«full_on») 365 (s .t) (omega arith), c .before .before .is-full .ensures)
 
 pub earned-spec : {M : Type 1} → statement M
 earned-spec =

@@ -1,6 +1,6 @@
 use mathlib.Core.Path.{sym, _∙_}
 use native.Mathlib.Omega.{arith}
-use Rattle.layout.proofs.Told.{book-facts}
+use Rattle.bookformat.proofs.Told.{book-facts}
 use Rattle.hollupaq.proofs.Told.{told-number, told-value}
 use borrow.Author.Needs.{needs}
 use Rattle.hollupaq.proofs.books.header_number.Statement.{statement}

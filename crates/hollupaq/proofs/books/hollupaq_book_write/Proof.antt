@@ -1,6 +1,6 @@
 use mathlib.Core.Path.{sym, _∙_}
 use native.Mathlib.Omega.{arith}
-use Rattle.layout.specs.Facts.{Sizes}
+use Rattle.bookformat.specs.Facts.{Sizes}
 use Rattle.hollupaq.proofs.Told.{stored, stored-not, stored-sizes}
 use borrow.Author.Needs.{needs}
 use Rattle.hollupaq.proofs.books.hollupaq_book_write.Statement.{statement}

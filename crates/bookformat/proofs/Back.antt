@@ -11,12 +11,12 @@ use lib.Seq.{take-append-seam}
 use Rattle.rules.specs.declared.Event.{Event}
 use Rattle.basics.proofs.Cases.{and-left, and-right, and-both}
 use Rattle.little.specs.Little.{Bytes}
-use Rattle.layout.specs.Book.{AccountList, mostAccounts, longest, base, size, accounts, records, kindFine, recordFine, recordsFine, bookRefusal, eventsAt, countsAt, split, flat, encode, decode}
-use Rattle.layout.specs.Lent.{after, lent, lentAt, lentList, total, kindsFine, writeRefusal, kindsOf, optionsOf, daysOf, amountsOf, Left, Wrote}
-use Rattle.layout.specs.Facts.{Header}
-use Rattle.layout.specs.Trips.{BookBack}
-use Rattle.layout.proofs.Told.{book-facts, read-facts}
-use Rattle.layout.proofs.Trips.{decode-parts, table-total, length-counts, length-events, split-flat, encode-decode}
+use Rattle.bookformat.specs.Book.{AccountList, mostAccounts, longest, base, size, accounts, records, kindFine, recordFine, recordsFine, bookRefusal, eventsAt, countsAt, split, flat, encode, decode}
+use Rattle.bookformat.specs.Lent.{after, lent, lentAt, lentList, countsTotal, kindsFine, writeRefusal, kindsOf, optionsOf, daysOf, amountsOf, Left, WroteBook}
+use Rattle.bookformat.specs.Facts.{Header}
+use Rattle.bookformat.specs.Trips.{BookBack}
+use Rattle.bookformat.proofs.Told.{book-facts, read-facts}
+use Rattle.bookformat.proofs.Trips.{decode-parts, table-total, length-counts, length-events, split-flat, encode-decode}
 
 -- ---- the fields of records, as lists
 
@@ -69,13 +69,13 @@ written-again b room z h =
     let no : length (optionsOf es) ≡ r = length-map es (λ e. e .option) ∙ nr in
     let nd : length (daysOf es) ≡ r = length-map es (λ e. e .day) ∙ nr in
     let nm : length (amountsOf es) ≡ r = length-map es (λ e. e .amount) ∙ nr in
-    let t : total cs ≡ r = omega (arith, table-total (base a) r a 8 0 b (f .entries)) in
+    let t : countsTotal cs ≡ r = omega (arith, table-total (base a) r a 8 0 b (f .entries)) in
     rw (decode-parts b z .0, decode-parts b z .1)
     (rw (na, nk, no, nd, nm)
     (rw (
       le-leb a mostAccounts (f .few),
       le-leb (size a r) longest (omega (arith, f)),
-      eq-eqb (total cs) r t,
+      eq-eqb (countsTotal cs) r t,
       eq-eqb r r refl,
       kinds-back r (base a) b (book-facts b z .1),
       le-leb (size a r) room (omega (arith, f)),
@@ -100,7 +100,7 @@ book-back b t cs ks os ds ms cs2 ks2 os2 ds2 ms2 old new n given w h =
     let eo : take (records b) os2 ≡ optionsOf es = ap (λ x. take (records b) x) (m .options) ∙ front (records b) (optionsOf es) os (length-map es (λ e. e .option) ∙ nr) in
     let ed : take (records b) ds2 ≡ daysOf es = ap (λ x. take (records b) x) (m .days) ∙ front (records b) (daysOf es) ds (length-map es (λ e. e .day) ∙ nr) in
     let em : take (records b) ms2 ≡ amountsOf es = ap (λ x. take (records b) x) (m .amounts) ∙ front (records b) (amountsOf es) ms (length-map es (λ e. e .amount) ∙ nr) in
-    let w2 : Wrote (map length l) (kindsOf es) (optionsOf es) (daysOf es) (amountsOf es) old new n = rw (ec, ek, eo, ed, em) at w in
+    let w2 : WroteBook (map length l) (kindsOf es) (optionsOf es) (daysOf es) (amountsOf es) old new n = rw (ec, ek, eo, ed, em) at w in
     let g = written-again b (length old) z h in
     let s = ap encode (lent-list l) ∙ encode-decode b t z in
     (w2 .answer ∙ g, w2 .bytes ∙ ap (λ k. after k (encode (lentList (map length l) (kindsOf es) (optionsOf es) (daysOf es) (amountsOf es))) old) g ∙ ap (λ x. after 0 x old) s)

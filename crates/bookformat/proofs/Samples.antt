@@ -10,9 +10,9 @@ use lib.Dec.{leb, eqb}
 use lib.ListN.{length, set, replicate, take}
 use Rattle.basics.proofs.Cases.{on}
 use Rattle.little.specs.Little.{num, un, le}
-use Rattle.layout.specs.Book.{AccountList, size, accounts, bookRefusal, encode, decode}
-use Rattle.layout.specs.Lent.{writeRefusal, readRefusal}
-use Rattle.layout.specs.Finding.{recordAt, spanAt}
+use Rattle.bookformat.specs.Book.{AccountList, size, accounts, bookRefusal, encode, decode}
+use Rattle.bookformat.specs.Lent.{writeRefusal, readRefusal}
+use Rattle.bookformat.specs.Finding.{recordAt, spanAt}
 
 -- ---- one book in full
 
@@ -42,16 +42,16 @@ unfolding num un
 gets-back = refl
 
 -- ---- cases: a name, the number found, the number expected
-pub record Case : Type 0 where
+pub record Sample : Type 0 where
   pub name : String
   pub found : ℕ
   pub expected : ℕ
 
-abbrev case : String → ℕ → ℕ → Case
+abbrev case : String → ℕ → ℕ → Sample
 case s f n = record { name = s; found = f; expected = n }
 
 -- the names of the cases that do not hold
-abbrev wrong : List Case → List String
+abbrev wrong : List Sample → List String
 wrong [] = []
 wrong (c ∷ cs) = cond (eqb (c .found) (c .expected)) (wrong cs) (c .name ∷ wrong cs)
 
@@ -68,7 +68,7 @@ event k = k ∷ 0 ∷ 0 ∷ 0 ∷ replicate 12 0
 abbrev two : ℕ → ℕ → ℕ → ℕ → ℕ → List ℕ
 two r first m second n = words (2 ∷ r ∷ first ∷ m ∷ second ∷ n ∷ []) ++ (event 2 ++ event 13)
 
-abbrev books : List Case
+abbrev books : List Sample
 books =
     case "7 bytes" (bookRefusal (replicate 7 0)) 20
     ∷ case "kind 17" (bookRefusal (set book 32 17)) 21
@@ -115,7 +115,7 @@ books =
 abbrev writes : List ℕ → List ℕ → ℕ → ℕ → ℕ → ℕ → ℕ
 writes cs ks o d m room = writeRefusal cs ks (replicate o 0) (replicate d 0) (replicate m 0) room
 
-abbrev lists : List Case
+abbrev lists : List Sample
 lists =
     case "7 bytes lent" (writes [] [] 0 0 0 7) 22
     ∷ case "no accounts" (writes [] [] 0 0 0 8) 0
@@ -137,7 +137,7 @@ lists =
     ∷ case "21 before 22" (writes (2 ∷ []) (17 ∷ 1 ∷ []) 2 2 2 0) 21
     ∷ []
 
-abbrev memory : List Case
+abbrev memory : List Sample
 memory =
     case "just enough" (readRefusal book 3 2 2 2 2) 0
     ∷ case "more than enough" (readRefusal book 4 5 6 7 8) 0
@@ -150,7 +150,7 @@ memory =
     ∷ case "21 before 22" (readRefusal (set book 32 17) 0 0 0 0 0) 21
     ∷ []
 
-abbrev places : List Case
+abbrev places : List Sample
 places =
     case "record 0" (recordAt book 0 .amount) 10000
     ∷ case "record 1" (recordAt book 1 .option) 255

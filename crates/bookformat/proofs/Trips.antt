@@ -13,11 +13,11 @@ use Rattle.rules.specs.declared.Event.{Event}
 use Rattle.basics.proofs.Cases.{and-left, and-right}
 use Rattle.little.specs.Little.{le, num, part, top, Bytes}
 use Rattle.little.proofs.Numbers.{le-num, num-at, length-le}
-use Rattle.layout.specs.Book.{AccountList, mostAccounts, longest, accounts, records, base, tableFine, kindFine, recordFine, recordsFine, bookRefusal, eventAt, eventsAt, countsAt, split, flat, decode, recordBytes, body, table, bookOf, encode}
-use Rattle.layout.specs.Lent.{total}
-use Rattle.layout.specs.Facts.{Header, Storable, Writable}
-use Rattle.layout.proofs.Tests.{and-on}
-use Rattle.layout.proofs.Told.{book-facts}
+use Rattle.bookformat.specs.Book.{AccountList, mostAccounts, longest, accounts, records, base, tableFine, kindFine, recordFine, recordsFine, bookRefusal, eventAt, eventsAt, countsAt, split, flat, decode, recordBytes, body, accountTable, bookOf, encode}
+use Rattle.bookformat.specs.Lent.{countsTotal}
+use Rattle.bookformat.specs.Facts.{Header, Storable, Writable}
+use Rattle.bookformat.proofs.Tests.{and-on}
+use Rattle.bookformat.proofs.Told.{book-facts}
 
 -- ---- parts of a list
 
@@ -32,7 +32,7 @@ getD-in x y p i e = rw (← e) (getD-append-add x y i 0)
 
 -- ---- an accepted book, decoded and encoded
 
-table-back : (start r n p sum : ℕ) (b : List ℕ) → Bytes b → p + 8 * n ≤ length b → tableFine start r n p sum b ≡ true → table (start + 16 * sum) (countsAt n p b) ≡ part (8 * n) p b
+table-back : (start r n p sum : ℕ) (b : List ℕ) → Bytes b → p + 8 * n ≤ length b → tableFine start r n p sum b ≡ true → accountTable (start + 16 * sum) (countsAt n p b) ≡ part (8 * n) p b
 table-back start r zero p sum b t h e = refl
 table-back start r (suc n) p sum b t h e =
     let c = num 4 (p + 4) b in
@@ -72,7 +72,7 @@ body-back (suc n) p b t h e =
     (ap₂ (λ x y. x ++ y) (record-back p b t (omega arith) (and-left (recordFine p b) (recordsFine n (p + 16) b) e))
     (body-back n (p + 16) b t (omega arith) (and-right (recordFine p b) (recordsFine n (p + 16) b) e)))
 
-pub table-total : (start r n p sum : ℕ) (b : List ℕ) → tableFine start r n p sum b ≡ true → sum + total (countsAt n p b) ≡ r
+pub table-total : (start r n p sum : ℕ) (b : List ℕ) → tableFine start r n p sum b ≡ true → sum + countsTotal (countsAt n p b) ≡ r
 table-total start r zero p sum b e = omega (arith, eqb-true sum r e)
 table-total start r (suc n) p sum b e =
     let c = num 4 (p + 4) b in
@@ -90,11 +90,11 @@ nil-of : (l : List Event) → 0 ≡ length l → [] ≡ l
 nil-of [] e = refl
 nil-of (x ∷ l) e = absurd (omega arith)
 
-pub flat-split : (cs : List ℕ) (es : List Event) → total cs ≡ length es → flat (split cs es) ≡ es
+pub flat-split : (cs : List ℕ) (es : List Event) → countsTotal cs ≡ length es → flat (split cs es) ≡ es
 flat-split [] es e = nil-of es e
 flat-split (c ∷ cs) es e = rw (flat-split cs (drop c es) (simp length-drop (omega arith))) (take-append-drop c es)
 
-pub lengths-split : (cs : List ℕ) (es : List Event) → total cs ≡ length es → map length (split cs es) ≡ cs
+pub lengths-split : (cs : List ℕ) (es : List Event) → countsTotal cs ≡ length es → map length (split cs es) ≡ cs
 lengths-split [] es e = refl
 lengths-split (c ∷ cs) es e =
     let k : length (take c es) ≡ c = simp length-take (omega arith) in
@@ -107,7 +107,7 @@ decode-parts b z =
     let r = records b in
     let cs = countsAt a 8 b in
     let es = eventsAt r (base a) b in
-    let tt : total cs ≡ length es = omega (arith, table-total (base a) r a 8 0 b (book-facts b z .0 .entries), length-events r (base a) b) in
+    let tt : countsTotal cs ≡ length es = omega (arith, table-total (base a) r a 8 0 b (book-facts b z .0 .entries), length-events r (base a) b) in
     (lengths-split cs es tt, flat-split cs es tt)
 
 -- THE FIRST ROUND TRIP: an accepted book, decoded and encoded, is the same bytes
@@ -131,21 +131,21 @@ encode-decode b t z =
 
 -- ---- an account list, encoded and decoded
 
-counts-at : (cs : List ℕ) (off p : ℕ) (x z : List ℕ) → length x ≡ p → total cs < top 4 → countsAt (length cs) p (x ++ (table off cs ++ z)) ≡ cs
+counts-at : (cs : List ℕ) (off p : ℕ) (x z : List ℕ) → length x ≡ p → countsTotal cs < top 4 → countsAt (length cs) p (x ++ (accountTable off cs ++ z)) ≡ cs
 counts-at [] off p x z e h = refl
 counts-at (c ∷ cs) off p x z e h =
-    let n1 = simp append-assoc at (num-at 4 c (p + 4) (x ++ le 4 off) (table (off + 16 * c) cs ++ z) (simp (length-append, length-le) (omega arith)) (omega arith)) in
+    let n1 = simp append-assoc at (num-at 4 c (p + 4) (x ++ le 4 off) (accountTable (off + 16 * c) cs ++ z) (simp (length-append, length-le) (omega arith)) (omega arith)) in
     let n2 = simp append-assoc at (counts-at cs (off + 16 * c) (p + 8) (x ++ (le 4 off ++ le 4 c)) z (simp (length-append, length-le) (omega arith)) (omega arith)) in
     simp append-assoc (ap₂ (λ a b. a ∷ b) n1 n2)
 
-table-at : (cs : List ℕ) (start r p sum : ℕ) (x z : List ℕ) → length x ≡ p → sum + total cs ≡ r → start + 16 * r < top 4
-    → tableFine start r (length cs) p sum (x ++ (table (start + 16 * sum) cs ++ z)) ≡ true
+table-at : (cs : List ℕ) (start r p sum : ℕ) (x z : List ℕ) → length x ≡ p → sum + countsTotal cs ≡ r → start + 16 * r < top 4
+    → tableFine start r (length cs) p sum (x ++ (accountTable (start + 16 * sum) cs ++ z)) ≡ true
 table-at [] start r p sum x z e f h = eq-eqb sum r (omega arith)
 table-at (c ∷ cs) start r p sum x z e f h =
     let o = start + 16 * sum in
     let s : start + 16 * (sum + c) ≡ o + 16 * c = omega arith in
-    let n0 = num-at 4 o p x (le 4 c ++ (table (o + 16 * c) cs ++ z)) e (omega arith) in
-    let n1 = simp append-assoc at (num-at 4 c (p + 4) (x ++ le 4 o) (table (o + 16 * c) cs ++ z) (simp (length-append, length-le) (omega arith)) (omega arith)) in
+    let n0 = num-at 4 o p x (le 4 c ++ (accountTable (o + 16 * c) cs ++ z)) e (omega arith) in
+    let n1 = simp append-assoc at (num-at 4 c (p + 4) (x ++ le 4 o) (accountTable (o + 16 * c) cs ++ z) (simp (length-append, length-le) (omega arith)) (omega arith)) in
     let n2 = simp append-assoc at (rw s at (table-at cs start r (p + 8) (sum + c) (x ++ (le 4 o ++ le 4 c)) z (simp (length-append, length-le) (omega arith)) (omega arith) h)) in
     simp append-assoc (rw n1 (and-on _ _ (eq-eqb _ _ n0) ∙ n2))
 
@@ -177,11 +177,11 @@ pub split-flat : (l : AccountList) → split (map length l) (flat l) ≡ l
 split-flat [] = refl
 split-flat (a ∷ l) = rw (take-append-seam a (flat l), drop-append-seam a (flat l), split-flat l)
 
-pub total-lengths : (l : AccountList) → total (map length l) ≡ length (flat l)
+pub total-lengths : (l : AccountList) → countsTotal (map length l) ≡ length (flat l)
 total-lengths [] = refl
 total-lengths (a ∷ l) = rw length-append (ap (λ k. length a + k) (total-lengths l))
 
-pub length-table : (cs : List ℕ) (p : ℕ) → length (table p cs) ≡ 8 * length cs
+pub length-table : (cs : List ℕ) (p : ℕ) → length (accountTable p cs) ≡ 8 * length cs
 length-table [] p = refl
 length-table (c ∷ cs) p = simp (length-append, length-le, length-table cs (p + 16 * c)) (omega arith)
 
@@ -193,18 +193,18 @@ pub length-book : (cs : List ℕ) (es : List Event) → length (bookOf cs es) �
 length-book cs es = simp (length-append, length-le, length-table, length-body) (omega arith)
 
 -- the parts of a book that was made from counts and events
-module _ (cs : List ℕ) (es : List Event) (few : length cs ≤ mostAccounts) (sum : total cs ≡ length es) (small : base (length cs) + 16 * length es ≤ longest) (storable : Storable es) where
+module _ (cs : List ℕ) (es : List Event) (few : length cs ≤ mostAccounts) (sum : countsTotal cs ≡ length es) (small : base (length cs) + 16 * length es ≤ longest) (storable : Storable es) where
   book-accounts : accounts (bookOf cs es) ≡ length cs
-  book-accounts = num-at 4 (length cs) 0 [] (le 4 (length es) ++ (table (base (length cs)) cs ++ body es)) refl (omega arith)
+  book-accounts = num-at 4 (length cs) 0 [] (le 4 (length es) ++ (accountTable (base (length cs)) cs ++ body es)) refl (omega arith)
 
   book-records : records (bookOf cs es) ≡ length es
-  book-records = num-at 4 (length es) 4 (le 4 (length cs)) (table (base (length cs)) cs ++ body es) (length-le 4 (length cs)) (omega arith)
+  book-records = num-at 4 (length es) 4 (le 4 (length cs)) (accountTable (base (length cs)) cs ++ body es) (length-le 4 (length cs)) (omega arith)
 
   book-counts : countsAt (length cs) 8 (bookOf cs es) ≡ cs
   book-counts = simp append-assoc at (counts-at cs (base (length cs)) 8 (le 4 (length cs) ++ le 4 (length es)) (body es) (simp (length-append, length-le)) (omega arith))
 
   book-events : eventsAt (length es) (base (length cs)) (bookOf cs es) ≡ es
-  book-events = simp (append-assoc, append-nil) at (events-at es (base (length cs)) (le 4 (length cs) ++ (le 4 (length es) ++ table (base
+  book-events = simp (append-assoc, append-nil) at (events-at es (base (length cs)) (le 4 (length cs) ++ (le 4 (length es) ++ accountTable (base
       (length cs)) cs)) [] (simp (length-append, length-le, length-table) (omega arith)) storable)
 
   book-table : tableFine (base (length cs)) (length es) (length cs) 8 0 (bookOf cs es) ≡ true
@@ -213,7 +213,7 @@ module _ (cs : List ℕ) (es : List Event) (few : length cs ≤ mostAccounts) (s
       simp append-assoc at (rw z at (table-at cs (base (length cs)) (length es) 8 0 (le 4 (length cs) ++ le 4 (length es)) (body es) (simp (length-append, length-le)) (omega arith) (omega arith)))
 
   book-storable : recordsFine (length es) (base (length cs)) (bookOf cs es) ≡ true
-  book-storable = simp (append-assoc, append-nil) at (records-at es (base (length cs)) (le 4 (length cs) ++ (le 4 (length es) ++ table (base
+  book-storable = simp (append-assoc, append-nil) at (records-at es (base (length cs)) (le 4 (length cs) ++ (le 4 (length es) ++ accountTable (base
       (length cs)) cs)) [] (simp (length-append, length-le, length-table) (omega arith)) storable)
 
   pub book-decoded : decode (bookOf cs es) ≡ split cs es

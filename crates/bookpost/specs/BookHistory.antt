@@ -11,9 +11,9 @@ use Rattle.rules.specs.History.{History}
 use Rattle.rules.specs.Money.{owed}
 use Rattle.rules.specs.Answer.{numberOf}
 use Rattle.rules.specs.Accepted.{offered, answersBy}
-use Rattle.layout.specs.Book.{bookRefusal}
-use Rattle.layout.specs.Lent.{after, orElse}
-use Rattle.layout.specs.Finding.{accountOf}
+use Rattle.bookformat.specs.Book.{bookRefusal}
+use Rattle.bookformat.specs.Lent.{after, orElse}
+use Rattle.bookformat.specs.Finding.{bookAccount}
 
 -- the number of the answer to each event, 0 for accepted
 abbrev pub numbersOf : List Event → List ℕ
@@ -26,10 +26,10 @@ owedFrom h (e ∷ es) = owed (offered h e) ∷ owedFrom (offered h e) es
 
 -- 22, after 20 and 21: one of the two slices is shorter than the account has records
 abbrev pub historyRefusal : List ℕ → ℕ → ℕ → ℕ → ℕ
-historyRefusal b i n m = orElse (bookRefusal b) (cond (leb (length (accountOf b i)) n && leb (length (accountOf b i)) m) 0 22)
+historyRefusal b i n m = orElse (bookRefusal b) (cond (leb (length (bookAccount b i)) n && leb (length (bookAccount b i)) m) 0 22)
 
 -- what telling a history does: the number of its answer, and every element of both slices
-pub record Told (b : List ℕ) (i : ℕ) (ns ns2 : List ℕ) (os os2 : List ℤ) (n : ℕ) : Type 0 where
+pub record ToldHistory (b : List ℕ) (i : ℕ) (ns ns2 : List ℕ) (os os2 : List ℤ) (n : ℕ) : Type 0 where
   pub answer : n ≡ historyRefusal b i (length ns) (length os)
-  pub numbers : ns2 ≡ after (historyRefusal b i (length ns) (length os)) (numbersOf (accountOf b i)) ns
-  pub owing : os2 ≡ after (historyRefusal b i (length ns) (length os)) (owedFrom [] (accountOf b i)) os
+  pub numbers : ns2 ≡ after (historyRefusal b i (length ns) (length os)) (numbersOf (bookAccount b i)) ns
+  pub owing : os2 ≡ after (historyRefusal b i (length ns) (length os)) (owedFrom [] (bookAccount b i)) os

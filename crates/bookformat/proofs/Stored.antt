@@ -13,23 +13,23 @@ use Rattle.rules.specs.Kinds.{closing}
 use Rattle.basics.proofs.Cases.{and-left, and-right}
 use Rattle.little.specs.Little.{top, Under}
 use Rattle.little.proofs.Stores.{sets-front}
-use Rattle.layout.specs.Book.{AccountList, longest, kindFine, bookRefusal, accounts, records, base, eventsAt, countsAt, decode, bookOf, encode}
-use Rattle.layout.specs.Lent.{after, kindsFine, writeRefusal, lent, lentList, total, kindsOf, optionsOf, daysOf, amountsOf, Left}
-use Rattle.layout.specs.Facts.{Storable, Room, Fits}
-use Rattle.layout.proofs.Told.{unchanged, write-facts}
-use Rattle.layout.proofs.Trips.{book-decoded, book-fine, flat-split, lengths-split, decode-parts, length-counts, length-events, length-book}
+use Rattle.bookformat.specs.Book.{AccountList, longest, kindFine, bookRefusal, accounts, records, base, eventsAt, countsAt, decode, bookOf, encode}
+use Rattle.bookformat.specs.Lent.{after, kindsFine, writeRefusal, lent, lentList, countsTotal, kindsOf, optionsOf, daysOf, amountsOf, Left}
+use Rattle.bookformat.specs.Facts.{Storable, WriteRoom, Fits}
+use Rattle.bookformat.proofs.Told.{unchanged, write-facts}
+use Rattle.bookformat.proofs.Trips.{book-decoded, book-fine, flat-split, lengths-split, decode-parts, length-counts, length-events, length-book}
 
 pub length-lent : (n i : ℕ) (ks os ds ms : List ℕ) → length (lent n i ks os ds ms) ≡ n
 length-lent zero i ks os ds ms = refl
 length-lent (suc n) i ks os ds ms = ap suc (length-lent n (i + 1) ks os ds ms)
 
 -- the stores of a whole book from byte 0 leave the book of the list, and the old tail
-pub wrote-all : (cs ks os ds ms old : List ℕ) → Room cs ks os ds ms (length old)
+pub wrote-all : (cs ks os ds ms old : List ℕ) → WriteRoom cs ks os ds ms (length old)
     → sets old 0 (bookOf cs (lent (length ks) 0 ks os ds ms)) ≡ after 0 (encode (lentList cs ks os ds ms)) old
 wrote-all cs ks os ds ms old s =
     let es = lent (length ks) 0 ks os ds ms in
     let n = length-lent (length ks) 0 ks os ds ms in
-    let t : total cs ≡ length es = s .sizes .sum ∙ sym n in
+    let t : countsTotal cs ≡ length es = s .sizes .sum ∙ sym n in
     rw (lengths-split cs es t, flat-split cs es t)
     (sets-front (bookOf cs es) old (omega (arith, length-book cs es, n)))
 
@@ -78,7 +78,7 @@ written-back cs ks os ds ms room o d m e =
     let w = write-facts cs ks os ds ms room e in
     let es = lent (length ks) 0 ks os ds ms in
     let n = length-lent (length ks) 0 ks os ds ms in
-    let t : total cs ≡ length es = w .sizes .sum ∙ sym n in
+    let t : countsTotal cs ≡ length es = w .sizes .sum ∙ sym n in
     let s : base (length cs) + 16 * length es ≤ longest = rw n (w .sizes .small) in
     let l = storable-lent (length ks) 0 ks os ds ms (w .kinds) o d m in
     rw (lengths-split cs es t, flat-split cs es t) (book-fine cs es (w .sizes .few) t s l, book-decoded cs es (w .sizes .few) t s l)

@@ -1,6 +1,6 @@
 use borrow.Author.Needs.{needs}
-use Rattle.layout.proofs.event_at.Statement.{statement}
-use Rattle.layout.proofs.event_at.Tie as tie
+use Rattle.bookformat.proofs.event_at.Statement.{statement}
+use Rattle.bookformat.proofs.event_at.Tie as tie
 
 returns : tie.Need-returns
 returns c = cc

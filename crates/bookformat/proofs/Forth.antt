@@ -8,15 +8,15 @@ use lib.ListN.{length, take, getD}
 use lib.Seq.{take-length}
 use Rattle.rules.specs.declared.Event.{Event}
 use Rattle.little.specs.Little.{top, part, Under}
-use Rattle.layout.specs.Book.{size, accounts, records, flat, encode}
-use Rattle.layout.specs.Lent.{after, lent, lentAt, lentList, total, writeRefusal, readRefusal, kindsOf, optionsOf, daysOf, amountsOf, Gave}
-use Rattle.layout.specs.Facts.{Sizes}
-use Rattle.layout.specs.Trips.{ListBack}
-use Rattle.layout.proofs.Told.{write-facts}
-use Rattle.layout.proofs.Trips.{part-cons, decode-parts, length-counts, lengths-split, flat-split, length-book}
-use Rattle.layout.proofs.Stored.{length-lent, written-back}
-use Rattle.layout.proofs.Found.{flat-length}
-use Rattle.layout.proofs.Back.{front}
+use Rattle.bookformat.specs.Book.{size, accounts, records, flat, encode}
+use Rattle.bookformat.specs.Lent.{after, lent, lentAt, lentList, countsTotal, writeRefusal, readRefusal, kindsOf, optionsOf, daysOf, amountsOf, Gave}
+use Rattle.bookformat.specs.Facts.{Sizes}
+use Rattle.bookformat.specs.Trips.{ListBack}
+use Rattle.bookformat.proofs.Told.{write-facts}
+use Rattle.bookformat.proofs.Trips.{part-cons, decode-parts, length-counts, lengths-split, flat-split, length-book}
+use Rattle.bookformat.proofs.Stored.{length-lent, written-back}
+use Rattle.bookformat.proofs.Found.{flat-length}
+use Rattle.bookformat.proofs.Back.{front}
 
 -- how long the book of a list is that was accepted
 pub length-written : (cs ks os ds ms : List ℕ) (room : ℕ) → writeRefusal cs ks os ds ms room ≡ 0 → length (encode (lentList cs ks os ds ms)) ≡ size (length cs) (length ks)
@@ -24,7 +24,7 @@ length-written cs ks os ds ms room z =
     let l = lentList cs ks os ds ms in
     let es = lent (length ks) 0 ks os ds ms in
     let n = length-lent (length ks) 0 ks os ds ms in
-    let t : total cs ≡ length es = write-facts cs ks os ds ms room z .sizes .sum ∙ sym n in
+    let t : countsTotal cs ≡ length es = write-facts cs ks os ds ms room z .sizes .sum ∙ sym n in
     length-book (map length l) (flat l) ∙ ap₂ (λ x y. size (length x) (length y)) (lengths-split cs es t) (flat-split cs es t) ∙ ap (λ k. size (length cs) k) n
 
 -- one field of the records lent is the slice lent for it
@@ -38,7 +38,7 @@ module _ (ks os ds ms : List ℕ) (f : Event → ℕ) (l : List ℕ) (h : (j : �
 
 -- a list that was accepted, and its book
 module _ (cs ks os ds ms : List ℕ) (room : ℕ) (uo : Under 256 os) (ud : Under (top 4) ds) (um : Under (top 8) ms) (z : writeRefusal cs ks os ds ms room ≡ 0) where
-  sums : total cs ≡ length (lent (length ks) 0 ks os ds ms)
+  sums : countsTotal cs ≡ length (lent (length ks) 0 ks os ds ms)
   sums = write-facts cs ks os ds ms room z .sizes .sum ∙ sym (length-lent (length ks) 0 ks os ds ms)
 
   back-accounts : accounts (encode (lentList cs ks os ds ms)) ≡ length cs

@@ -6,7 +6,7 @@ use Prim.Native.Nat.{ℕ, zero, suc, _+_}
 use lib.Dec.{leb, eqb}
 use lib.ListN.{length, drop, getD}
 use Rattle.rules.specs.declared.Event.{Event}
-use Rattle.layout.specs.Book.{AccountList, all, size, mostAccounts, longest, kindFine, accounts, records, bookRefusal, split, flat, encode, decode}
+use Rattle.bookformat.specs.Book.{AccountList, all, size, mostAccounts, longest, kindFine, accounts, records, bookRefusal, split, flat, encode, decode}
 
 -- lent memory after a call with this number: what is new and then the old tail, or all as it was
 abbrev pub after : {A : Type 0} → ℕ → List A → List A → List A
@@ -32,16 +32,16 @@ lent (suc n) i ks os ds ms = lentAt i ks os ds ms ∷ lent n (i + 1) ks os ds ms
 abbrev pub lentList : List ℕ → List ℕ → List ℕ → List ℕ → List ℕ → AccountList
 lentList cs ks os ds ms = split cs (lent (length ks) 0 ks os ds ms)
 
-abbrev pub total : List ℕ → ℕ
-total [] = 0
-total (c ∷ cs) = c + total cs
+abbrev pub countsTotal : List ℕ → ℕ
+countsTotal [] = 0
+countsTotal (c ∷ cs) = c + countsTotal cs
 
 -- 20: too many accounts, a book too long, counts that do not come to the records lent, or slices of different lengths
 abbrev pub sizesTests : List ℕ → List ℕ → List ℕ → List ℕ → List ℕ → List Bool
 sizesTests cs ks os ds ms =
     leb (length cs) mostAccounts
     ∷ leb (size (length cs) (length ks)) longest
-    ∷ eqb (total cs) (length ks)
+    ∷ eqb (countsTotal cs) (length ks)
     ∷ eqb (length os) (length ks)
     ∷ eqb (length ds) (length ks)
     ∷ eqb (length ms) (length ks)
@@ -61,7 +61,7 @@ writeRefusal cs ks os ds ms room =
     cond (sizesFine cs ks os ds ms) (cond (kindsFine (length ks) 0 ks) (cond (leb (size (length cs) (length ks)) room) 0 22) 21) 20
 
 -- what writing does: the number of its answer, and every byte of the output afterwards
-pub record Wrote (cs ks os ds ms old new : List ℕ) (n : ℕ) : Type 0 where
+pub record WroteBook (cs ks os ds ms old new : List ℕ) (n : ℕ) : Type 0 where
   pub answer : n ≡ writeRefusal cs ks os ds ms (length old)
   pub bytes : new ≡ after (writeRefusal cs ks os ds ms (length old)) (encode (lentList cs ks os ds ms)) old
 
@@ -71,12 +71,12 @@ pub record Wrote (cs ks os ds ms old new : List ℕ) (n : ℕ) : Type 0 where
 abbrev pub roomTests : List ℕ → ℕ → ℕ → ℕ → ℕ → ℕ → List Bool
 roomTests b lc lk lo ld lm = leb (accounts b) lc ∷ leb (records b) lk ∷ leb (records b) lo ∷ leb (records b) ld ∷ leb (records b) lm ∷ []
 
-abbrev pub enough : List ℕ → ℕ → ℕ → ℕ → ℕ → ℕ → Bool
-enough b lc lk lo ld lm = all (roomTests b lc lk lo ld lm)
+abbrev pub longEnough : List ℕ → ℕ → ℕ → ℕ → ℕ → ℕ → Bool
+longEnough b lc lk lo ld lm = all (roomTests b lc lk lo ld lm)
 
 -- 22, after 20 and 21: some slice is too short for the list
 abbrev pub readRefusal : List ℕ → ℕ → ℕ → ℕ → ℕ → ℕ → ℕ
-readRefusal b lc lk lo ld lm = orElse (bookRefusal b) (cond (enough b lc lk lo ld lm) 0 22)
+readRefusal b lc lk lo ld lm = orElse (bookRefusal b) (cond (longEnough b lc lk lo ld lm) 0 22)
 
 abbrev pub kindsOf : List Event → List ℕ
 kindsOf es = map (λ e. e .kind) es

@@ -13,13 +13,13 @@ use lib.Seq.{drop-drop, drop-cons}
 use Rattle.rules.specs.declared.Event.{Event}
 use Rattle.basics.proofs.Cases.{on, on-lt, and-left, and-right}
 use Rattle.little.specs.Little.{num}
-use Rattle.layout.specs.declared.Span.{Span}
-use Rattle.layout.specs.Book.{accounts, records, base, tableFine, bookRefusal, eventAt, eventsAt, countsAt, split, flat, decode}
-use Rattle.layout.specs.Lent.{total}
-use Rattle.layout.specs.Facts.{Header}
-use Rattle.layout.specs.Finding.{noEvent, entries, room, recordAt, spanAt, recordOf, IsAccount}
-use Rattle.layout.proofs.Told.{book-facts}
-use Rattle.layout.proofs.Trips.{decode-parts, table-total, length-counts, length-events}
+use Rattle.bookformat.specs.declared.Span.{Span}
+use Rattle.bookformat.specs.Book.{accounts, records, base, tableFine, bookRefusal, eventAt, eventsAt, countsAt, split, flat, decode}
+use Rattle.bookformat.specs.Lent.{countsTotal}
+use Rattle.bookformat.specs.Facts.{Header}
+use Rattle.bookformat.specs.Finding.{noEvent, entries, wholeRecords, recordAt, spanAt, recordOf, IsAccount}
+use Rattle.bookformat.proofs.Told.{book-facts}
+use Rattle.bookformat.proofs.Trips.{decode-parts, table-total, length-counts, length-events}
 
 events-getD : (n p k : ℕ) (b : List ℕ) → k < n → getD (eventsAt n p b) k noEvent ≡ eventAt (p + 16 * k) b
 events-getD zero p k b h = absurd (not-suc-le-zero h)
@@ -30,7 +30,7 @@ pub record-at : (b : List ℕ) (k : ℕ) → bookRefusal b ≡ 0 → k < records
 record-at b k z h = rw (decode-parts b z .1) (sym (events-getD (records b) (base (accounts b)) k b h))
 
 -- where the offset of account i points, and its count
-offset-at : (start r n p sum i : ℕ) (b : List ℕ) → tableFine start r n p sum b ≡ true → i < n → num 4 (p + 8 * i) b ≡ start + 16 * (sum + total (take i (countsAt n p b)))
+offset-at : (start r n p sum i : ℕ) (b : List ℕ) → tableFine start r n p sum b ≡ true → i < n → num 4 (p + 8 * i) b ≡ start + 16 * (sum + countsTotal (take i (countsAt n p b)))
 offset-at start r zero p sum i b e h = absurd (not-suc-le-zero h)
 offset-at start r (suc n) p sum zero b e h =
     ap (λ q. num 4 q b) (omega arith) ∙ eqb-true _ _ (and-left (eqb (num 4 p b) (start + 16 * sum)) (tableFine start r n (p + 8) (sum + num 4 (p + 4) b) b) e) ∙ omega arith
@@ -44,17 +44,17 @@ count-at zero p i b h = absurd (not-suc-le-zero h)
 count-at (suc n) p zero b h = ap (λ q. num 4 q b) (omega arith)
 count-at (suc n) p (suc i) b h = count-at n (p + 8) i b (le-of-suc-le-suc h) ∙ ap (λ q. num 4 q b) (omega arith)
 
-split-at : (cs : List ℕ) (es : List Event) (i : ℕ) → i < length cs → getD (split cs es) i [] ≡ take (getD cs i 0) (drop (total (take i cs)) es)
+split-at : (cs : List ℕ) (es : List Event) (i : ℕ) → i < length cs → getD (split cs es) i [] ≡ take (getD cs i 0) (drop (countsTotal (take i cs)) es)
 split-at [] es i h = absurd (not-suc-le-zero h)
 split-at (c ∷ cs) es zero h = refl
-split-at (c ∷ cs) es (suc i) h = split-at cs (drop c es) i (le-of-suc-le-suc h) ∙ ap (λ l. take (getD cs i 0) l) (drop-drop (total (take i cs)) c es)
+split-at (c ∷ cs) es (suc i) h = split-at cs (drop c es) i (le-of-suc-le-suc h) ∙ ap (λ l. take (getD cs i 0) l) (drop-drop (countsTotal (take i cs)) c es)
 
-total-take : (cs : List ℕ) (i : ℕ) → i < length cs → total (take i cs) + getD cs i 0 ≤ total cs
+total-take : (cs : List ℕ) (i : ℕ) → i < length cs → countsTotal (take i cs) + getD cs i 0 ≤ countsTotal cs
 total-take [] i h = absurd (not-suc-le-zero h)
 total-take (c ∷ cs) zero h = omega arith
 total-take (c ∷ cs) (suc i) h = omega (arith, total-take cs i (le-of-suc-le-suc h))
 
-pub offset-of : (b : List ℕ) (i : ℕ) → bookRefusal b ≡ 0 → i < accounts b → num 4 (8 + 8 * i) b ≡ base (accounts b) + 16 * total (take i (countsAt (accounts b) 8 b))
+pub offset-of : (b : List ℕ) (i : ℕ) → bookRefusal b ≡ 0 → i < accounts b → num 4 (8 + 8 * i) b ≡ base (accounts b) + 16 * countsTotal (take i (countsAt (accounts b) 8 b))
 offset-of b i z h = omega (arith, offset-at (base (accounts b)) (records b) (accounts b) 8 0 i b (book-facts b z .0 .entries) h)
 
 pub account-at : (b : List ℕ) (i : ℕ) (s : Span) → bookRefusal b ≡ 0 → i < accounts b
@@ -66,7 +66,7 @@ account-at b i s z h f c =
     let n : i < length cs = rw (length-counts a 8 b) h in
     let t = book-facts b z .0 .entries in
     let k : s .count ≡ getD cs i 0 = c ∙ sym (count-at a 8 i b h) in
-    let o : s .first ≡ total (take i cs) = omega (arith, offset-at (base a) (records b) a 8 0 i b t h) in
+    let o : s .first ≡ countsTotal (take i cs) = omega (arith, offset-at (base a) (records b) a 8 0 i b t h) in
     record {
       small = omega (arith, book-facts b z .0);
       within = omega (arith, total-take cs i n, table-total (base a) (records b) a 8 0 b t);
@@ -104,8 +104,8 @@ decode-length b = length-split (countsAt (accounts b) 8 b) (eventsAt (records b)
 pub record-of : (b : List ℕ) (k : ℕ) → bookRefusal b ≡ 0 → recordAt b k ≡ recordOf b k
 record-of b k z =
     let h : Header b = book-facts b z .0 in
-    let r : room b ≡ records b = omega (arith, h) in
-    on-lt k (room b) (λ s q. rw s (record-at b k z (omega arith)))
+    let r : wholeRecords b ≡ records b = omega (arith, h) in
+    on-lt k (wholeRecords b) (λ s q. rw s (record-at b k z (omega arith)))
     (λ s q. rw s (sym (past (flat (decode b)) k noEvent (omega (arith, flat-length b z)))))
 
 -- account i of an accepted book, for every i

@@ -8,8 +8,8 @@ use rules::kinds::CLOSING;
 ghost use mathlib.Core.Path.{_≡_};
 ghost use Prim.Native.Nat.{_+_, _≤_};
 ghost use lib.ListN.{length};
-ghost use Rattle.layout.specs.Book.{kindFine, eventAt};
-ghost use Rattle.layout.specs.Answers.{numberOf};
+ghost use Rattle.bookformat.specs.Book.{kindFine, eventAt};
+ghost use Rattle.bookformat.specs.Answers.{outcomeNumber};
 
 // A book has at most so many accounts ..
 pub const MOST_ACCOUNTS: u64 = 1024;
@@ -32,7 +32,7 @@ pub struct Span {
 impl Outcome {
     // The number of the refusal, 0 for done.
     pub fn number(self) -> u8
-        ensures { λ r. ⌜ r ≡ numberOf self ⌝ }
+        ensures { λ r. ⌜ r ≡ outcomeNumber self ⌝ }
     {
         match self {
             Outcome::Done => 0,

@@ -6,9 +6,9 @@ use Prim.Native.Nat.{ℕ, _+_, _*_, _-_, _/_, _≤_}
 use lib.Dec.{leb, ltb}
 use lib.ListN.{length, take, drop, getD}
 use Rattle.rules.specs.declared.Event.{Event}
-use Rattle.layout.specs.declared.Span.{Span}
+use Rattle.bookformat.specs.declared.Span.{Span}
 use Rattle.little.specs.Little.{num}
-use Rattle.layout.specs.Book.{accounts, records, base, eventAt, flat, decode}
+use Rattle.bookformat.specs.Book.{accounts, records, base, eventAt, flat, decode}
 
 -- kind 0, which no accepted book has
 abbrev pub noEvent : Event
@@ -21,12 +21,12 @@ noSpan = record { first = 0; count = 0 }
 abbrev pub entries : List ℕ → ℕ
 entries b = cond (leb (base (accounts b)) (length b)) (accounts b) 0
 
-abbrev pub room : List ℕ → ℕ
-room b = (length b - base (accounts b)) / 16
+abbrev pub wholeRecords : List ℕ → ℕ
+wholeRecords b = (length b - base (accounts b)) / 16
 
 -- what lies at record k of any bytes, and at account i
 abbrev pub recordAt : List ℕ → ℕ → Event
-recordAt b k = cond (ltb k (room b)) (eventAt (base (accounts b) + 16 * k) b) noEvent
+recordAt b k = cond (ltb k (wholeRecords b)) (eventAt (base (accounts b) + 16 * k) b) noEvent
 
 abbrev pub spanAt : List ℕ → ℕ → Span
 spanAt b i =
@@ -36,12 +36,12 @@ spanAt b i =
 abbrev pub recordOf : List ℕ → ℕ → Event
 recordOf b k = getD (flat (decode b)) k noEvent
 
-abbrev pub accountOf : List ℕ → ℕ → List Event
-accountOf b i = getD (decode b) i []
+abbrev pub bookAccount : List ℕ → ℕ → List Event
+bookAccount b i = getD (decode b) i []
 
 -- a span holds the records of account i
 pub record IsAccount (b : List ℕ) (i : ℕ) (s : Span) : Type 0 where
   pub within : s .first + s .count ≤ records b
   -- a record's number and the next one are far from wrapping
   pub small : records b ≤ 268435455
-  pub events : take (s .count) (drop (s .first) (flat (decode b))) ≡ accountOf b i
+  pub events : take (s .count) (drop (s .first) (flat (decode b))) ≡ bookAccount b i

@@ -109,13 +109,13 @@ body [] = []
 body (e ∷ es) = recordBytes e ++ body es
 
 -- for each account the offset of its first record and its count; the first account's records begin at byte p
-abbrev pub table : ℕ → List ℕ → List ℕ
-table p [] = []
-table p (c ∷ cs) = le 4 p ++ (le 4 c ++ table (p + 16 * c) cs)
+abbrev pub accountTable : ℕ → List ℕ → List ℕ
+accountTable p [] = []
+accountTable p (c ∷ cs) = le 4 p ++ (le 4 c ++ accountTable (p + 16 * c) cs)
 
 -- the book of these counts and records
 abbrev pub bookOf : List ℕ → List Event → List ℕ
-bookOf cs es = le 4 (length cs) ++ (le 4 (length es) ++ (table (base (length cs)) cs ++ body es))
+bookOf cs es = le 4 (length cs) ++ (le 4 (length es) ++ (accountTable (base (length cs)) cs ++ body es))
 
 -- all records, account after account
 abbrev pub flat : AccountList → List Event

@@ -1,12 +1,12 @@
 -- How reading or writing a book ends, and document 01's number of it.
 use Prim.Native.Nat.{ℕ, zero, suc}
-use Rattle.layout.specs.declared.Outcome.{Outcome}
-use Rattle.layout.specs.declared.Outcome.the-variants.{Done, Stopped}
+use Rattle.bookformat.specs.declared.Outcome.{Outcome}
+use Rattle.bookformat.specs.declared.Outcome.the-variants.{Done, Stopped}
 
 -- the number of the refusal, 0 for done
-abbrev pub numberOf : Outcome → ℕ
-numberOf Done = 0
-numberOf (Stopped n) = n
+abbrev pub outcomeNumber : Outcome → ℕ
+outcomeNumber Done = 0
+outcomeNumber (Stopped n) = n
 
 -- the case that says a number: nothing is stopped with 0
 abbrev pub outcomeOf : ℕ → Outcome

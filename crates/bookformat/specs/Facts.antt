@@ -7,8 +7,8 @@ use lib.ListN.{length}
 use Rattle.rules.specs.declared.Event.{Event}
 use Rattle.rules.specs.Kinds.{bill, closing}
 use Rattle.little.specs.Little.{top}
-use Rattle.layout.specs.Book.{AccountList, flat, base, size, mostAccounts, longest, accounts, records, tableFine, bookRefusal}
-use Rattle.layout.specs.Lent.{total, kindsFine}
+use Rattle.bookformat.specs.Book.{AccountList, flat, base, size, mostAccounts, longest, accounts, records, tableFine, bookRefusal}
+use Rattle.bookformat.specs.Lent.{countsTotal, kindsFine}
 
 -- a header that passed
 pub record Header (b : List ℕ) : Type 0 where
@@ -32,13 +32,13 @@ pub record Fits (b : List ℕ) (lc lk lo ld lm : ℕ) : Type 0 where
 pub record Sizes (cs ks os ds ms : List ℕ) : Type 0 where
   pub few : length cs ≤ mostAccounts
   pub small : size (length cs) (length ks) ≤ longest
-  pub sum : total cs ≡ length ks
+  pub sum : countsTotal cs ≡ length ks
   pub options : length os ≡ length ks
   pub days : length ds ≡ length ks
   pub amounts : length ms ≡ length ks
 
 -- a list to be written, and output that is long enough
-pub record Room (cs ks os ds ms : List ℕ) (room : ℕ) : Type 0 where
+pub record WriteRoom (cs ks os ds ms : List ℕ) (room : ℕ) : Type 0 where
   pub sizes : Sizes cs ks os ds ms
   pub kinds : kindsFine (length ks) 0 ks ≡ true
   pub within : size (length cs) (length ks) ≤ room
