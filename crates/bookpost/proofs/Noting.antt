@@ -24,7 +24,7 @@ use Rattle.bookformat.specs.Book.{records, bookRefusal, flat, decode}
 use Rattle.bookformat.specs.Finding.{recordOf, bookAccount, IsAccount}
 use Rattle.bookformat.proofs.Found.{flat-length}
 use Rattle.account.specs.declared.Posted.{Posted}
-use Rattle.account.specs.State.{wordsOf, freshWords, bookAccount as partsOf}
+use Rattle.account.specs.State.{wordsOf, freshWords, accountOf}
 use Rattle.account.specs.Post.{answerTo, wordsAfter}
 use Rattle.questions.specs.Questions.{owedIn}
 use Rattle.claim.specs.Run.{answers}
@@ -40,13 +40,13 @@ abbrev owedRun : List ℕ → List Event → List ℤ
 owedRun m [] = []
 owedRun m (e ∷ es) = owedIn (wordsAfter m e) ∷ owedRun (wordsAfter m e) es
 
-owed-run : (h : History) (es : List Event) → Lawful h → owedRun (wordsOf (partsOf h)) es ≡ owedFrom h es
+owed-run : (h : History) (es : List Event) → Lawful h → owedRun (wordsOf (accountOf h)) es ≡ owedFrom h es
 owed-run h [] w = refl
 owed-run h (e ∷ es) w =
     let w2 = offered-lawful h e w in
     let k = laws (offered h e) w2 in
     ap (λ m. owedIn m ∷ owedRun m es) (words-after h e w)
-    ∙ (ap (λ x. x ∷ owedRun (wordsOf (partsOf (offered h e))) es) (owed-is (offered h e) k) ∙ ap (λ l. owed (offered h e) ∷ l) (owed-run (offered h e) es w2))
+    ∙ (ap (λ x. x ∷ owedRun (wordsOf (accountOf (offered h e))) es) (owed-is (offered h e) k) ∙ ap (λ l. owed (offered h e) ∷ l) (owed-run (offered h e) es w2))
 
 -- by demand 3, and by its laws for what is owed on the way
 pub noted-numbers : (es : List Event) → map numberOf (answers freshWords es) ≡ numbersOf es
