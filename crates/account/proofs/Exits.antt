@@ -13,7 +13,7 @@ use Rattle.rules.specs.declared.Event.{Event}
 use Rattle.rules.specs.declared.View.{View}
 use Rattle.rules.specs.declared.Answer.{Answer}
 use Rattle.rules.specs.declared.Answer.the-variants.{Accepted, Refused}
-use Rattle.rules.specs.History.{finalDay}
+use Rattle.rules.specs.Limits.{finalDay}
 use Rattle.rules.specs.Range.{inRange, WellFormed}
 use Rattle.rules.specs.Table.{chargeOf, refusalBy}
 use Rattle.rules.specs.Accepted.{dayRows}

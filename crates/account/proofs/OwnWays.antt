@@ -22,8 +22,8 @@ use Rattle.rules.specs.Range.{inRange}
 use Rattle.rules.specs.Accepted.{dayRows}
 use Rattle.rules.specs.Money.{charges, lateCharge}
 use Rattle.rules.specs.Fees.{feeOf, feeNumber}
-use Rattle.rules.specs.Notice.{enough}
-use Rattle.rules.specs.Table.{limit, mostOpen, chargeOf, creditOf, refusalBy}
+use Rattle.rules.specs.Limits.{enough, limit, mostOpen}
+use Rattle.rules.specs.Table.{chargeOf, creditOf, refusalBy}
 use Rattle.rules.proofs.Passed.{allowed}
 use Rattle.rules.proofs.Room.{Room, room}
 use Rattle.amounts.proofs.Equations.{charge-bill, charge-fee}

@@ -8,7 +8,8 @@ use lib.ListN.{length, getD, replicate}
 use Rattle.span.specs.Span.{cut, joined}
 use Rattle.rules.specs.declared.Event.{Event}
 use Rattle.rules.specs.declared.View.{View}
-use Rattle.rules.specs.History.{History, finalDay, lastPosted}
+use Rattle.rules.specs.Limits.{finalDay}
+use Rattle.rules.specs.History.{History, lastPosted}
 use Rattle.rules.specs.Money.{charges}
 use Rattle.rules.specs.Table.{chargeOf, creditOf}
 use Rattle.collection.specs.declared.Collection.{Collection}

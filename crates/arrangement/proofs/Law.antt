@@ -8,11 +8,11 @@ use lib.Dec.{leb}
 use borrow.Author.Tests.{le-leb, leb-true}
 use Rattle.basics.proofs.Cases.{on, on-eq, links}
 use Rattle.rules.specs.Kinds.{payment, arrangement}
-use Rattle.rules.specs.History.{History, finalDay, is}
+use Rattle.rules.specs.Limits.{finalDay, limit}
+use Rattle.rules.specs.History.{History, is}
 use Rattle.rules.specs.Receipts.{returnable}
 use Rattle.rules.specs.Money.{arrears}
 use Rattle.rules.specs.Arrangement.{Terms, terms, paidSince, returnedSince, inForce}
-use Rattle.rules.specs.Table.{limit}
 use Rattle.rules.specs.Accepted.{Lawful}
 use Rattle.rules.proofs.Sums.{total-grows, total-since}
 use Rattle.rules.proofs.Ranged.{ranged}

@@ -6,11 +6,11 @@ use lib.Dec.{leb, ltb}
 use lib.ListN.{getD}
 use Rattle.rules.specs.declared.Event.{Event}
 use Rattle.rules.specs.Kinds.{payment, returnedPayment, arrangement}
-use Rattle.rules.specs.History.{History, finalDay, is, amountIf}
+use Rattle.rules.specs.Limits.{finalDay, limit, partDays, mostParts}
+use Rattle.rules.specs.History.{History, is, amountIf}
 use Rattle.rules.specs.Receipts.{returnable}
 use Rattle.rules.specs.Money.{arrears}
 use Rattle.rules.specs.Arrangement.{Terms, dueBy}
-use Rattle.rules.specs.Table.{limit}
 use Rattle.arrangement.specs.declared.Arrangement.{Arrangement}
 
 -- ---- its words
@@ -49,12 +49,12 @@ abbrev pub termsBy : Arrangement → Terms
 termsBy a = record { day = a .day; parts = a .parts; debt = a .debt }
 
 abbrev pub inForceBy : Arrangement → ℕ → Bool
-inForceBy a u = ltb u (a .day + 30 * a .parts) && leb (dueBy (termsBy a) u + a .returned) (a .paid)
+inForceBy a u = ltb u (a .day + partDays * a .parts) && leb (dueBy (termsBy a) u + a .returned) (a .paid)
 
 -- in at most six parts, on a day in range, and on none where there is none; sums within the limit
 abbrev pub arrangementOk : Arrangement → Bool
 arrangementOk a =
-    leb (a .parts) 6
+    leb (a .parts) mostParts
     && leb (a .day) (finalDay * a .parts)
     && leb (a .debt) limit
     && leb (a .paid) limit
@@ -62,7 +62,7 @@ arrangementOk a =
 
 -- what the test tells
 pub record ArrangementFit (a : Arrangement) : Type 0 where
-  pub parts-le : a .parts ≤ 6
+  pub parts-le : a .parts ≤ mostParts
   pub day-le : a .day ≤ finalDay * a .parts
   pub debt-le : a .debt ≤ limit
   pub paid-le : a .paid ≤ limit

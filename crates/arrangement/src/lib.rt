@@ -5,6 +5,8 @@ use rules::kinds::PAYMENT;
 use rules::kinds::RETURNED_PAYMENT;
 use rules::limits::FINAL_DAY;
 use rules::limits::LIMIT;
+use rules::limits::MOST_PARTS;
+use rules::limits::PART_DAYS;
 ghost use mathlib.Core.Path.{_≡_};
 ghost use mathlib.Core.Bool.{cond};
 ghost use Prim.Native.Nat.{_≤_};
@@ -12,10 +14,13 @@ ghost use lib.ListN.{length};
 ghost use Rattle.rules.specs.Kinds.{returnedPayment};
 ghost use Rattle.rules.specs.History.{is};
 ghost use Rattle.rules.specs.Range.{WellFormed};
-ghost use Rattle.rules.specs.Table.{limit};
+ghost use Rattle.rules.specs.Limits.{limit};
 ghost use Rattle.arrangement.specs.Arrangement.{arrangementSize, arrangementOn, arrangementAfter, inForceBy, arrangementOk, ArrangementFit};
 
 pub const WORDS: usize = 5;
+
+// The most parts, in a word of the account.
+const PARTS_TO: u64 = MOST_PARTS as u64;
 
 const DAY: usize = 0;
 
@@ -26,11 +31,6 @@ const DEBT: usize = 2;
 const PAID: usize = 3;
 
 const RETURNED: usize = 4;
-
-const MOST_PARTS: u64 = 6;
-
-// How many days each part has.
-const PART_DAYS: u64 = 30;
 
 // Where there is none, all is 0: an arrangement in no parts is in force on no day.
 pub struct Arrangement {
@@ -125,7 +125,7 @@ impl Arrangement {
         ensures { λ r. ⌜ r ≡ arrangementOk self ⌝ }
     {
         let n = self.parts;
-        if n <= MOST_PARTS {
+        if n <= PARTS_TO {
             return (self.day <= FINAL_DAY * n)
                 & (self.debt <= LIMIT)
                 & (self.paid <= LIMIT)

@@ -9,7 +9,7 @@ use rules::Event;
 ghost use mathlib.Core.Path.{_≡_};
 ghost use Prim.Native.Nat.{_+_, _*_, _≤_};
 ghost use lib.ListN.{length};
-ghost use Rattle.bookformat.specs.Book.{base, recordFine, recordsFine, tableFine, headerFine, bookRefusal};
+ghost use Rattle.bookformat.specs.Book.{mostAccounts, base, recordFine, recordsFine, tableFine, headerFine, bookRefusal};
 ghost use Rattle.bookformat.specs.Finding.{entries as Entries, wholeRecords as Room, recordAt, recordOf, spanAt, IsAccount};
 
 // The record at byte p: its kind, and the two spare bytes.
@@ -42,7 +42,7 @@ fn records_fine(b: &[u8], p: usize, n: usize) -> bool
 
 // The table of a accounts: offsets without gaps, counts that sum to r. The sum of 1,024 counts can't wrap.
 fn table_fine(b: &[u8], a: usize, r: u64) -> bool
-    requires { ⌜ (base a ≤ length (now b)) × (a ≤ 1024) ⌝ }
+    requires { ⌜ (base a ≤ length (now b)) × (a ≤ mostAccounts) ⌝ }
     ensures { λ s. ⌜ s ≡ tableFine (base a) r a 8 0 (now (b .entry)) ⌝ }
 {
     let start = 8 + 8 * (a as u64);

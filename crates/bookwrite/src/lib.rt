@@ -12,7 +12,7 @@ ghost use Prim.Native.Nat.{_+_, _*_, _<_, _≤_};
 ghost use lib.ListN.{length};
 ghost use lib.Seq.{sets};
 ghost use Rattle.little.specs.Little.{le};
-ghost use Rattle.bookformat.specs.Book.{base, recordBytes, body, accountTable, bookOf};
+ghost use Rattle.bookformat.specs.Book.{mostAccounts, base, recordBytes, body, accountTable, bookOf};
 ghost use Rattle.bookformat.specs.Lent.{lent, countsTotal, sizesFine, kindsFine, writeRefusal, WroteBook};
 ghost use Rattle.bookformat.specs.Facts.{WriteRoom};
 ghost use Rattle.bookformat.specs.Answers.{outcomeNumber, outcomeOf};
@@ -25,7 +25,7 @@ fn wide32(x: u32) -> u64
 
 // The sum of at most 1,024 counts, which can't wrap.
 fn sum(counts: &[u32]) -> u64
-    requires { ⌜ length (now counts) ≤ 1024 ⌝ }
+    requires { ⌜ length (now counts) ≤ mostAccounts ⌝ }
     ensures { λ r. ⌜ r ≡ countsTotal (now (counts .entry)) ⌝ }
 {
     let mut s: u64 = 0;
@@ -104,7 +104,7 @@ fn put_entry(out: &mut [u8], p: usize, first: u64, n: u64)
 
 // The table of the counts, from byte 8 on.
 fn put_table(counts: &[u32], out: &mut [u8])
-    requires { ⌜ (length (now counts) ≤ 1024) × (base (length (now counts)) ≤ length (now out)) ⌝ }
+    requires { ⌜ (length (now counts) ≤ mostAccounts) × (base (length (now counts)) ≤ length (now out)) ⌝ }
     ensures { λ _. ⌜ now (out .exit) ≡ sets (now (out .entry)) 8 (accountTable (base (length (now (counts .entry)))) (now (counts .entry))) ⌝ }
 {
     let mut first = 8 + 8 * (counts.len() as u64);

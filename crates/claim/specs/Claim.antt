@@ -13,7 +13,8 @@ use Rattle.rules.specs.declared.Answer.{Answer}
 use Rattle.rules.specs.declared.Answer.the-variants.{Accepted, Refused}
 use Rattle.rules.specs.Kinds.{bill, payment, depositPaid, payout}
 use Rattle.rules.specs.Answer.{numberOf, receiptOf}
-use Rattle.rules.specs.History.{History, finalDay, lastPosted, total}
+use Rattle.rules.specs.Limits.{finalDay}
+use Rattle.rules.specs.History.{History, lastPosted, total}
 use Rattle.rules.specs.Deposit.{held, required}
 use Rattle.rules.specs.Money.{credits, owed, unpaid, openItems, arrears}
 use Rattle.rules.specs.Service.{service}

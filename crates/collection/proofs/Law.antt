@@ -9,10 +9,11 @@ use borrow.Author.Tests.{le-leb}
 use Rattle.rules.specs.declared.Service.{Service}
 use Rattle.rules.specs.declared.Service.the-variants.{On, Off, Closed}
 use Rattle.rules.specs.Kinds.{finalNotice, disconnection, reconnection, closing}
-use Rattle.rules.specs.History.{History, finalDay, is, lastPosted}
+use Rattle.rules.specs.Limits.{finalDay, enough}
+use Rattle.rules.specs.History.{History, is, lastPosted}
 use Rattle.rules.specs.Money.{arrears}
 use Rattle.rules.specs.Service.{service}
-use Rattle.rules.specs.Notice.{enough, noticeLive, noticeInDays, called}
+use Rattle.rules.specs.Notice.{noticeLive, noticeInDays, called}
 use Rattle.rules.specs.Accepted.{Lawful}
 use Rattle.rules.proofs.Bounds.{sorted, in-days}
 use Rattle.collection.specs.Collection.{serviceBy, liveBy, inDaysBy, calledBy, collectionOf, collectionOk}

@@ -10,7 +10,8 @@ use Rattle.basics.proofs.Cases.{on, never, and-left, and-right, and-both}
 use Rattle.rules.specs.Kinds.{finalNotice, disconnection}
 use Rattle.rules.specs.History.{History, is, within, lastPosted}
 use Rattle.rules.specs.Money.{arrears}
-use Rattle.rules.specs.Notice.{enough, surviving, noticeLive}
+use Rattle.rules.specs.Limits.{enough}
+use Rattle.rules.specs.Notice.{surviving, noticeLive}
 use Rattle.rules.specs.Accepted.{Lawful}
 use Rattle.rules.proofs.Days.{Sorted, within-true, within-in}
 use Rattle.rules.proofs.Passed.{passed}

@@ -11,7 +11,7 @@ use Rattle.basics.proofs.Cases.{on}
 use Rattle.span.proofs.Law.{whole}
 use Rattle.rules.specs.declared.Event.{Event}
 use Rattle.rules.specs.Kinds.{finalNotice, call, disconnection, reconnection, closing}
-use Rattle.rules.specs.Notice.{enough}
+use Rattle.rules.specs.Limits.{enough}
 use Rattle.collection.specs.declared.Collection.{Collection}
 use Rattle.collection.specs.Collection.{collectionAfter, watched, lapsedBy, collectionSize, collectionOn, collectionWords}
 

@@ -1,5 +1,5 @@
 -- The service, the final notice and the calls that an account keeps.
-use Prim.Native.Nat.{ℕ, _+_}
+use Prim.Native.Nat.{ℕ, _+_, _-_}
 use mathlib.Core.Bool.{Bool, cond, not, _&&_, _||_}
 use mathlib.Core.List.{List, [], _∷_}
 use lib.Dec.{leb, eqb}
@@ -8,9 +8,9 @@ use Rattle.rules.specs.declared.Event.{Event}
 use Rattle.rules.specs.declared.Service.{Service}
 use Rattle.rules.specs.declared.Service.the-variants.{On, Off, Closed}
 use Rattle.rules.specs.Kinds.{finalNotice, call, disconnection, reconnection, closing}
-use Rattle.rules.specs.History.{History, finalDay, is, within}
+use Rattle.rules.specs.Limits.{finalDay, enough, noticeFrom, noticeTo, callDays}
+use Rattle.rules.specs.History.{History, is, within}
 use Rattle.rules.specs.Money.{arrears}
-use Rattle.rules.specs.Notice.{enough}
 use Rattle.collection.specs.declared.Notice.{Notice}
 use Rattle.collection.specs.declared.Calls.{Calls}
 use Rattle.collection.specs.declared.Collection.{Collection}
@@ -44,10 +44,10 @@ noticeAfter n e owing =
 
 -- live on t, and in its days
 abbrev pub liveBy : Notice → ℕ → Bool
-liveBy n t = eqb (n .live) 1 && within (n .day) (n .day + 20) t
+liveBy n t = eqb (n .live) 1 && within (n .day) (n .day + noticeTo) t
 
 abbrev pub inDaysBy : Notice → ℕ → Bool
-inDaysBy n t = eqb (n .live) 1 && within (n .day + 5) (n .day + 20) t
+inDaysBy n t = eqb (n .live) 1 && within (n .day + noticeFrom) (n .day + noticeTo) t
 
 -- ---- calls
 abbrev pub noCalls : Calls
@@ -62,7 +62,7 @@ callsAfter c e =
 
 -- next is the day after some day from t − 3 to t − 1
 unfoldable pub recentBy : ℕ → ℕ → Bool
-recentBy next t = leb 1 next && within next (next + 2) t
+recentBy next t = leb 1 next && within next (next + (callDays - 1)) t
 
 abbrev pub calledBy : Calls → ℕ → Bool
 calledBy c t = recentBy (c .last) t || recentBy (c .earlier) t

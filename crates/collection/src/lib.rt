@@ -7,8 +7,11 @@ use rules::kinds::CLOSING;
 use rules::kinds::DISCONNECTION;
 use rules::kinds::FINAL_NOTICE;
 use rules::kinds::RECONNECTION;
+use rules::limits::CALL_DAYS;
 use rules::limits::ENOUGH;
 use rules::limits::FINAL_DAY;
+use rules::limits::NOTICE_FROM;
+use rules::limits::NOTICE_TO;
 ghost use mathlib.Core.Path.{_≡_};
 ghost use mathlib.Core.Bool.{cond};
 ghost use Prim.Native.Nat.{_+_};
@@ -37,6 +40,9 @@ const ON: u64 = 0;
 const OFF: u64 = 1;
 
 const CLOSED: u64 = 2;
+
+// From the day after a call to the last day on which it counts.
+const CALLED_FOR: u64 = CALL_DAYS - 1;
 
 // The newest final notice, and 1 while it lives on: no disconnection used it up and no event made it lapse.
 pub struct Notice {
@@ -75,7 +81,7 @@ fn window(day: u64, from: u64, to: u64, t: u64) -> bool
 fn recent(next: u64, t: u64) -> bool
     ensures { λ r. ⌜ r ≡ recentBy next t ⌝ }
 {
-    (1 <= next) & window(next, 0, 2, t)
+    (1 <= next) & window(next, 0, CALLED_FOR, t)
 }
 
 fn service_after(service: u64, e: Event) -> u64
@@ -104,13 +110,13 @@ impl Notice {
     fn is_live(self, t: u64) -> bool
         ensures { λ r. ⌜ r ≡ liveBy self t ⌝ }
     {
-        (self.live == 1) & window(self.day, 0, 20, t)
+        (self.live == 1) & window(self.day, 0, NOTICE_TO, t)
     }
 
     fn in_days(self, t: u64) -> bool
         ensures { λ r. ⌜ r ≡ inDaysBy self t ⌝ }
     {
-        (self.live == 1) & window(self.day, 5, 20, t)
+        (self.live == 1) & window(self.day, NOTICE_FROM, NOTICE_TO, t)
     }
 }
 

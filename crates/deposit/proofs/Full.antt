@@ -11,7 +11,8 @@ use Rattle.basics.proofs.Cases.{on, on-eq, and-left, and-right}
 use Rattle.rules.specs.declared.Event.{Event}
 use Rattle.rules.specs.declared.View.{View}
 use Rattle.rules.specs.Kinds.{depositAsked, depositPaid}
-use Rattle.rules.specs.History.{History, finalDay, is}
+use Rattle.rules.specs.Limits.{finalDay}
+use Rattle.rules.specs.History.{History, is}
 use Rattle.rules.specs.Deposit.{moves, held, required, full, fullOn}
 use Rattle.rules.specs.Table.{row7}
 use Rattle.rules.specs.Accepted.{viewOf, Lawful}

@@ -8,9 +8,9 @@ use lib.Dec.{leb}
 use borrow.Author.Tests.{le-leb, leb-true}
 use Rattle.basics.proofs.Cases.{on, links}
 use Rattle.rules.specs.Kinds.{depositAsked, depositPaid}
-use Rattle.rules.specs.History.{History, finalDay, lastPosted}
+use Rattle.rules.specs.Limits.{finalDay, mostDeposit}
+use Rattle.rules.specs.History.{History, lastPosted}
 use Rattle.rules.specs.Deposit.{moves, held, required, full, fullOn, earned}
-use Rattle.rules.specs.Range.{mostDeposit}
 use Rattle.rules.specs.Accepted.{Lawful}
 use Rattle.rules.proofs.Sums.{total-grows, total-since, newest-since}
 use Rattle.rules.proofs.Bounds.{sorted, in-days, held-in}

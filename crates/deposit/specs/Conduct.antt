@@ -1,11 +1,12 @@
 -- The final notices and disconnections that an account keeps for the deposit.
-use Prim.Native.Nat.{ℕ, _+_}
+use Prim.Native.Nat.{ℕ, _+_, _-_}
 use mathlib.Core.Bool.{Bool, cond, not, _&&_}
 use mathlib.Core.List.{[], _∷_}
 use lib.Dec.{leb}
 use Rattle.rules.specs.declared.Event.{Event}
 use Rattle.rules.specs.Kinds.{finalNotice, disconnection}
-use Rattle.rules.specs.History.{History, finalDay, is}
+use Rattle.rules.specs.Limits.{finalDay, year}
+use Rattle.rules.specs.History.{History, is}
 use Rattle.deposit.specs.declared.Conduct.{Conduct}
 
 abbrev pub noConduct : Conduct
@@ -26,7 +27,7 @@ conductOf (e ∷ h) = conductAfter (conductOf h) e
 
 -- next is the day after some day of the 365 up to t
 unfoldable pub inYearBy : ℕ → ℕ → Bool
-inYearBy next t = leb 1 next && leb t (next + 363)
+inYearBy next t = leb 1 next && leb t (next + (year - 2))
 
 -- at most two notices, and no disconnection, in the 365 days up to t
 abbrev pub quietBy : Conduct → ℕ → Bool

@@ -6,9 +6,9 @@ use lib.Dec.{leb, ltb, eqb}
 use lib.ListN.{getD}
 use Rattle.rules.specs.declared.Event.{Event}
 use Rattle.rules.specs.Kinds.{depositAsked, depositPaid, depositMoved, finalNotice, disconnection, closing}
-use Rattle.rules.specs.History.{History, finalDay, is, amountIf}
+use Rattle.rules.specs.Limits.{finalDay, mostDeposit, year}
+use Rattle.rules.specs.History.{History, is, amountIf}
 use Rattle.rules.specs.Deposit.{moves}
-use Rattle.rules.specs.Range.{mostDeposit}
 use Rattle.deposit.specs.declared.Deposit.{Deposit}
 use Rattle.deposit.specs.Conduct.{noConduct, conductAfter, quietBy, conductOk}
 
@@ -42,7 +42,7 @@ depositOf [] = noDeposit
 depositOf (e ∷ h) = depositAfter (depositOf h) e
 
 abbrev pub earnedBy : Deposit → ℕ → Bool
-earnedBy d t = isFull d && leb (d .«full_on» + 365) t && quietBy (d .conduct) t
+earnedBy d t = isFull d && leb (d .«full_on» + year) t && quietBy (d .conduct) t
 
 abbrev pub depositOk : Deposit → Bool
 depositOk d =

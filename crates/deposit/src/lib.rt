@@ -8,6 +8,8 @@ use rules::kinds::DEPOSIT_PAID;
 use rules::kinds::DISCONNECTION;
 use rules::kinds::FINAL_NOTICE;
 use rules::limits::FINAL_DAY;
+use rules::limits::MOST_DEPOSIT;
+use rules::limits::YEAR;
 ghost use mathlib.Core.Path.{_≡_};
 ghost use lib.ListN.{length};
 ghost use Rattle.rules.specs.Range.{WellFormed};
@@ -31,13 +33,8 @@ const THIRD: usize = 5;
 
 const CUT: usize = 6;
 
-// A deposit is earned when it was full for so many days.
-const FULL_FOR: u64 = 365;
-
 // From the day after an event to the last of the 365 days in which it bars a return.
-const BARS_FOR: u64 = 363;
-
-const MOST_DEPOSIT: u64 = 100_000_000;
+const BARS_FOR: u64 = YEAR - 2;
 
 // The days after the three newest final notices, newest first, and the day after the newest disconnection; 0 for none.
 // A third notice within the year is one too many, so older ones are never asked for.
@@ -161,7 +158,7 @@ impl Deposit {
         ensures { λ r. ⌜ r ≡ earnedBy self t ⌝ }
     {
         let conduct = self.conduct;
-        self.is_full() & (FULL_FOR <= basics::minus_or_zero(t, self.full_on)) & conduct.quiet(t)
+        self.is_full() & (YEAR <= basics::minus_or_zero(t, self.full_on)) & conduct.quiet(t)
     }
 
     pub fn ok(self) -> bool

@@ -11,7 +11,7 @@ use Rattle.rules.specs.declared.Event.{Event}
 use Rattle.rules.specs.Kinds.{payment}
 use Rattle.rules.specs.History.{is}
 use Rattle.rules.specs.Money.{arrears}
-use Rattle.rules.specs.Table.{limit}
+use Rattle.rules.specs.Limits.{limit}
 use Rattle.rules.specs.Answer.{receiptOf}
 use Rattle.rules.specs.Accepted.{accepted}
 use Rattle.rules.proofs.Lawful.{accepted-lawful}

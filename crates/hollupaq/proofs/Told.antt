@@ -6,7 +6,7 @@ use mathlib.Core.List.{List}
 use native.Mathlib.Omega.{arith}
 use lib.Dec.{leb, eqb}
 use lib.ListN.{length}
-use Rattle.rules.specs.Table.{limit}
+use Rattle.rules.specs.Limits.{limit}
 use Rattle.bookformat.specs.Book.{size}
 use Rattle.bookformat.specs.Lent.{sizesFine, kindsFine, writeRefusal, WroteBook}
 use Rattle.bookformat.specs.Facts.{Sizes}

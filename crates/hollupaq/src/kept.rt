@@ -7,8 +7,9 @@ use rules::Event;
 use rules::Service;
 ghost use mathlib.Core.Path.{_≡_};
 ghost use mathlib.Core.Bool.{cond};
-ghost use Prim.Native.Nat.{_≤_};
+ghost use Prim.Native.Nat.{_+_, _≤_};
 ghost use lib.ListN.{getD};
+ghost use Rattle.rules.specs.Limits.{limit};
 ghost use Rattle.rules.specs.Answer.{receiptOf};
 ghost use Rattle.collection.specs.Collection.{serviceNumber};
 ghost use Rattle.ledger.specs.Ledger.{noItem};
@@ -18,7 +19,7 @@ ghost use Rattle.questions.specs.Questions.{owedIn, heldIn, requiredIn, service
 ghost use Rattle.hollupaq.specs.Library.{answerWord, Keeps, KeepsAt, Begun};
 
 fn word_of(a: Answer) -> u64
-    requires { ⌜ receiptOf a ≤ 1000000000001 ⌝ }
+    requires { ⌜ receiptOf a ≤ limit + 1 ⌝ }
     ensures { λ r. ⌜ r ≡ answerWord a ⌝ }
 {
     match a {

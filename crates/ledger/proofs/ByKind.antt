@@ -10,7 +10,7 @@ use Rattle.rules.specs.Kinds.{bill, payment, returnedPayment, fee, payout, fina
 use Rattle.rules.specs.History.{is, amountIf}
 use Rattle.rules.specs.Deposit.{moves}
 use Rattle.rules.specs.Money.{charges, creditBy}
-use Rattle.rules.specs.Table.{limit}
+use Rattle.rules.specs.Limits.{limit}
 use Rattle.rules.proofs.Sums.{no-credit}
 use Rattle.ledger.specs.Ledger.{Ledger, enteredIn, creditedIn, paidFrom, settled, ledgerAfter, LedgerFit, OneThing, LedgerRoom}
 use Rattle.ledger.proofs.Kept.{charge-step, credit-step, payout-step, no-step}

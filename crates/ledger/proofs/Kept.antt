@@ -11,7 +11,7 @@ use Rattle.rules.specs.declared.Event.{Event}
 use Rattle.rules.specs.Kinds.{payout}
 use Rattle.rules.specs.History.{amountIf}
 use Rattle.rules.specs.Money.{keep}
-use Rattle.rules.specs.Table.{mostOpen}
+use Rattle.rules.specs.Limits.{mostOpen}
 use Rattle.ledger.specs.Ring.{uptoAt, stored, itemsFrom, closedFrom, belowFrom}
 use Rattle.ledger.specs.Ledger.{Ledger, creditsBy, openOf, enteredIn, creditedIn, paidFrom, settled, ledgerAfter, isSettled}
 use Rattle.ledger.proofs.Ring.{isOpen, Chained, ring-joined, chain-join, left-open, left-chained, closed-in, closed-again, below-again, many}

@@ -18,7 +18,7 @@ use Rattle.rules.specs.History.{History, amountIf, total}
 use Rattle.rules.specs.Deposit.{held}
 use Rattle.rules.specs.Money.{creditBy, credited, credits, charges, charge, charged, owed, items, unpaid, sumOf, keep, openItems, due, arrears}
 use Rattle.rules.specs.Range.{inRange}
-use Rattle.rules.specs.Table.{limit, mostOpen}
+use Rattle.rules.specs.Limits.{limit, mostOpen}
 use Rattle.rules.specs.Receipts.{returnable}
 use Rattle.rules.specs.Accepted.{viewOf, Lawful}
 use Rattle.rules.proofs.Items.{keep-append, keep-keep, keep-same, keep-short, sum-keep, sum-mono}

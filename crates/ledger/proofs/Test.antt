@@ -10,7 +10,8 @@ use Rattle.basics.proofs.Cases.{links}
 use Rattle.rules.specs.declared.Event.{Event}
 use Rattle.rules.specs.declared.View.{View}
 use Rattle.rules.specs.Money.{charges}
-use Rattle.rules.specs.Table.{limit, mostOpen, chargeOf, creditOf}
+use Rattle.rules.specs.Limits.{limit, mostOpen}
+use Rattle.rules.specs.Table.{chargeOf, creditOf}
 use Rattle.rules.proofs.Room.{Room}
 use Rattle.ledger.specs.Ledger.{Ledger, creditsBy, isSettled, ledgerOk, LedgerFit, LedgerRoom}
 use Rattle.ledger.proofs.Kept.{still-settled}

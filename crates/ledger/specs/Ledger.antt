@@ -12,7 +12,7 @@ use Rattle.rules.specs.Kinds.{payout}
 use Rattle.rules.specs.History.{History, is, amountIf}
 use Rattle.rules.specs.Deposit.{held}
 use Rattle.rules.specs.Money.{charges, charge, creditBy, sumOf, unpaid, due}
-use Rattle.rules.specs.Table.{limit, mostOpen}
+use Rattle.rules.specs.Limits.{limit, mostOpen}
 use Rattle.ledger.specs.declared.Sums.{Sums}
 use Rattle.ledger.specs.declared.OpenItem.{OpenItem}
 use Rattle.ledger.specs.Ring.{uptoAt, stored, itemsFrom, closedFrom, belowFrom}

@@ -5,10 +5,11 @@ use mathlib.Core.Bool.{cond}
 use mathlib.Core.List.{List, [], _∷_}
 use lib.Dec.{ltb}
 use lib.ListN.{getD, set}
+use Rattle.rules.specs.Limits.{mostOpen}
 use Rattle.rules.specs.declared.Item.{Item}
 
 abbrev pub places : ℕ
-places = 64
+places = mostOpen
 
 -- the words of the place of item k
 abbrev pub dayIn : ℕ → ℕ

@@ -4,6 +4,7 @@
 // What is read is defined for any words, so that the test need not look through the places.
 use rules::Event;
 use rules::kinds::PAYOUT;
+use rules::limits::GRACE;
 use rules::limits::LIMIT;
 use rules::limits::MOST_OPEN;
 ghost use mathlib.Core.Path.{_≡_};
@@ -12,7 +13,7 @@ ghost use Prim.Native.Nat.{_+_, _-_, _≤_, _<_, min};
 ghost use lib.IntN.{subℕ};
 ghost use lib.ListN.{length, getD};
 ghost use Rattle.rules.specs.Money.{due as dueOf};
-ghost use Rattle.rules.specs.Table.{limit};
+ghost use Rattle.rules.specs.Limits.{limit};
 ghost use Rattle.ledger.specs.Ring.{dayIn, dayAt, uptoAt};
 ghost use Rattle.ledger.specs.Ledger.{ledgerSize, ledgerOn, creditsBy, sumsOf, arrearsBy, openBy, noItem, sumBefore, enteredIn, creditedIn, paidFrom, settled, ledgerAfter, Settled, isSettled, headOk, ledgerOk, LedgerFit, LedgerRoom};
 
@@ -37,11 +38,6 @@ const BELOW: usize = 5;
 // the ring of items: 64 places of two words
 const RING: usize = 6;
 
-const PLACES: u64 = 64;
-
-// an item is delinquent so many days after its own
-const GRACE: u64 = 20;
-
 // What the table asks of every event.
 pub struct Sums {
     pub charged: u64,
@@ -62,7 +58,7 @@ pub struct OpenItem {
 fn place(k: u64) -> usize
     ensures { λ r. ⌜ r ≡ 6 + dayIn k ⌝ }
 {
-    RING + 2 * ((k % PLACES) as usize)
+    RING + 2 * ((k % MOST_OPEN) as usize)
 }
 
 fn day_of(w: &[u64], k: u64) -> u64

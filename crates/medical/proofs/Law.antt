@@ -10,7 +10,8 @@ use borrow.Author.Tests.{le-leb, lt-ltb, le-ltb, ltb-true, eqb-true}
 use Rattle.basics.proofs.Cases.{on, on-lt, both-ways, at-most}
 use Rattle.rules.specs.declared.Event.{Event}
 use Rattle.rules.specs.Kinds.{certificate, approval}
-use Rattle.rules.specs.History.{History, finalDay, is, lastPosted}
+use Rattle.rules.specs.Limits.{finalDay}
+use Rattle.rules.specs.History.{History, is, lastPosted}
 use Rattle.rules.specs.Medical.{covers, certified, approved}
 use Rattle.rules.specs.Range.{unknown, fields}
 use Rattle.rules.specs.Accepted.{Lawful}

@@ -6,7 +6,8 @@ use lib.Dec.{leb, ltb}
 use lib.ListN.{getD}
 use Rattle.rules.specs.declared.Event.{Event}
 use Rattle.rules.specs.Kinds.{certificate, approval}
-use Rattle.rules.specs.History.{History, finalDay, is}
+use Rattle.rules.specs.Limits.{finalDay, certificateDays, approvalDays}
+use Rattle.rules.specs.History.{History, is}
 use Rattle.medical.specs.declared.Medical.{Medical}
 
 -- ---- its words
@@ -46,4 +47,4 @@ approvedBy m t = ltb t (m .«approved_to»)
 
 -- at most 180 days past the last day, and 30
 abbrev pub medicalOk : Medical → Bool
-medicalOk m = leb (m .«certified_to») (finalDay + 180) && leb (m .«approved_to») (finalDay + 30)
+medicalOk m = leb (m .«certified_to») (finalDay + certificateDays) && leb (m .«approved_to») (finalDay + approvalDays)

@@ -2,10 +2,14 @@
 use rules::Event;
 use rules::kinds::APPROVAL;
 use rules::kinds::CERTIFICATE;
+use rules::limits::APPROVAL_DAYS;
+use rules::limits::CERTIFICATE_DAYS;
+use rules::limits::FINAL_DAY;
 ghost use mathlib.Core.Path.{_≡_};
 ghost use mathlib.Core.Bool.{true, cond};
 ghost use Prim.Native.Nat.{_+_, _≤_};
 ghost use lib.ListN.{length};
+ghost use Rattle.rules.specs.Limits.{certificateDays};
 ghost use Rattle.rules.specs.Range.{WellFormed};
 ghost use Rattle.medical.specs.Medical.{medicalSize, medicalOn, medicalAfter, certifiedBy, approvedBy, medicalOk};
 
@@ -16,9 +20,9 @@ const CERTIFIED_TO: usize = 0;
 const APPROVED_TO: usize = 1;
 
 // The last day, 73,048, with the longest certificate and the longest approval.
-const LAST_CERTIFIED: u64 = 73_228;
+const LAST_CERTIFIED: u64 = FINAL_DAY + CERTIFICATE_DAYS;
 
-const LAST_APPROVED: u64 = 73_078;
+const LAST_APPROVED: u64 = FINAL_DAY + APPROVAL_DAYS;
 
 // The day past the end of the certificate that ends last, and of the approval that ends last among those posted after the
 // newest certificate; 0 for none. No later day can ask for more.
@@ -29,7 +33,7 @@ pub struct Medical {
 
 // The day past the end of a certificate or an approval; 0 where the event is not the one that is looked for.
 fn end_of(wanted: bool, e: Event) -> u64
-    requires { ⌜ (wanted ≡ true → e .amount ≤ 180) ⌝ }
+    requires { ⌜ (wanted ≡ true → e .amount ≤ certificateDays) ⌝ }
     ensures { λ r. ⌜ r ≡ cond wanted (e .day + e .amount) 0 ⌝ }
 {
     if wanted {

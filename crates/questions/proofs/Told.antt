@@ -5,7 +5,8 @@ use mathlib.Core.Bool.{Bool, true, false}
 use mathlib.Core.List.{List, map, map-map}
 use lib.ListN.{length}
 use Rattle.basics.proofs.Cases.{on-lt}
-use Rattle.rules.specs.History.{History, finalDay, lastPosted}
+use Rattle.rules.specs.Limits.{finalDay}
+use Rattle.rules.specs.History.{History, lastPosted}
 use Rattle.rules.specs.Deposit.{held, required}
 use Rattle.rules.specs.Money.{credits, owed, unpaid, openItems, arrears}
 use Rattle.rules.specs.Service.{service}

@@ -17,7 +17,14 @@ use rules::kinds::PAYMENT;
 use rules::kinds::PAYOUT;
 use rules::kinds::RECONNECTION;
 use rules::kinds::RETURNED_PAYMENT;
+use rules::limits::APPROVAL_DAYS;
+use rules::limits::CERTIFICATE_DAYS;
 use rules::limits::FINAL_DAY;
+use rules::limits::LEAST_PARTS;
+use rules::limits::MOST_AMOUNT;
+use rules::limits::MOST_DEPOSIT;
+use rules::limits::MOST_PARTS;
+use rules::limits::MOST_RECEIPT;
 ghost use mathlib.Core.Path.{_≡_};
 ghost use mathlib.Core.Bool.{cond, not};
 ghost use lib.ListN.{getD};
@@ -42,14 +49,14 @@ const AMOUNT: Fields = Fields {
     option_from: 0,
     option_to: 0,
     amount_from: 1,
-    amount_to: 10_000_000_000,
+    amount_to: MOST_AMOUNT,
 };
 
 const RECEIPT: Fields = Fields {
     option_from: 0,
     option_to: 0,
     amount_from: 1,
-    amount_to: 18_446_744_073_709_551_615,
+    amount_to: MOST_RECEIPT,
 };
 
 const FEE_NUMBER: Fields = Fields {
@@ -63,26 +70,26 @@ const SUM_ASKED: Fields = Fields {
     option_from: 0,
     option_to: 0,
     amount_from: 1,
-    amount_to: 100_000_000,
+    amount_to: MOST_DEPOSIT,
 };
 
 const CERTIFIED_DAYS: Fields = Fields {
     option_from: 0,
     option_to: 0,
     amount_from: 1,
-    amount_to: 180,
+    amount_to: CERTIFICATE_DAYS,
 };
 
 const APPROVED_DAYS: Fields = Fields {
     option_from: 0,
     option_to: 0,
     amount_from: 1,
-    amount_to: 30,
+    amount_to: APPROVAL_DAYS,
 };
 
 const PARTS: Fields = Fields {
-    option_from: 2,
-    option_to: 6,
+    option_from: LEAST_PARTS,
+    option_to: MOST_PARTS,
     amount_from: 0,
     amount_to: 0,
 };

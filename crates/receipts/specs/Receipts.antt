@@ -7,7 +7,7 @@ use lib.ListN.{getD, set, drop, replicate}
 use Rattle.rules.specs.declared.Event.{Event}
 use Rattle.rules.specs.Kinds.{payment, returnedPayment}
 use Rattle.rules.specs.History.{History, is, within}
-use Rattle.rules.specs.Table.{limit}
+use Rattle.rules.specs.Limits.{limit, knownReceipts}
 
 pub record Receipts : Type 0 where
   -- how many payments were accepted
@@ -28,7 +28,7 @@ receiptsWords s = s .count ∷ s .recent
 
 -- ---- its step
 abbrev pub noReceipts : Receipts
-noReceipts = record { count = 0; recent = replicate 32 0 }
+noReceipts = record { count = 0; recent = replicate knownReceipts 0 }
 
 -- a payment takes the next place, a returned one clears its own
 abbrev pub receiptsAfter : Receipts → Event → Receipts
@@ -36,8 +36,8 @@ receiptsAfter s e =
     record {
       count = cond (is payment e) (s .count + 1) (s .count);
       recent =
-          cond (is payment e) (set (s .recent) ((s .count + 1) % 32) (e .amount))
-          (cond (is returnedPayment e) (set (s .recent) (e .amount % 32) 0)
+          cond (is payment e) (set (s .recent) ((s .count + 1) % knownReceipts) (e .amount))
+          (cond (is returnedPayment e) (set (s .recent) (e .amount % knownReceipts) 0)
           (s .recent));
     }
 
@@ -49,7 +49,7 @@ receiptsOf (e ∷ h) = receiptsAfter (receiptsOf h) e
 -- ---- what it tells
 -- the payment of a receipt among the newest 32, 0 of any other
 abbrev pub paymentBy : Receipts → ℕ → ℕ
-paymentBy s r = cond (within 1 (s .count) r && ltb (s .count - r) 32) (getD (s .recent) (r % 32) 0) 0
+paymentBy s r = cond (within 1 (s .count) r && ltb (s .count - r) knownReceipts) (getD (s .recent) (r % knownReceipts) 0) 0
 
 abbrev pub receiptsOk : Receipts → Bool
 receiptsOk s = leb (s .count) limit

@@ -4,11 +4,13 @@
 use rules::Event;
 use rules::kinds::PAYMENT;
 use rules::kinds::RETURNED_PAYMENT;
+use rules::limits::KNOWN_RECEIPTS;
 use rules::limits::LIMIT;
 ghost use mathlib.Core.Path.{_≡_};
 ghost use mathlib.Core.Bool.{cond};
 ghost use Prim.Native.Nat.{_+_, _%_};
 ghost use lib.ListN.{length};
+ghost use Rattle.rules.specs.Limits.{knownReceipts};
 ghost use Rattle.rules.specs.Kinds.{returnedPayment};
 ghost use Rattle.rules.specs.History.{is};
 ghost use Rattle.receipts.specs.Receipts.{receiptsSize, receiptsOn, receiptsAfter, paymentBy, receiptsOk, ReceiptsFit};
@@ -21,13 +23,11 @@ const COUNT: usize = 0;
 // the ring of their amounts
 const RECENT: usize = 1;
 
-const PLACES: u64 = 32;
-
 // Where the payment of a receipt stands.
 fn place(receipt: u64) -> usize
-    ensures { λ r. ⌜ r ≡ 1 + receipt % 32 ⌝ }
+    ensures { λ r. ⌜ r ≡ 1 + receipt % knownReceipts ⌝ }
 {
-    RECENT + ((receipt % PLACES) as usize)
+    RECENT + ((receipt % KNOWN_RECEIPTS) as usize)
 }
 
 // ---- what it answers
@@ -46,7 +46,7 @@ pub fn payment(w: &[u64], receipt: u64) -> u64
 {
     let n = w[COUNT];
     let at = place(receipt);
-    let known = rules::within(1, n, receipt) & (basics::minus_or_zero(n, receipt) < PLACES);
+    let known = rules::within(1, n, receipt) & (basics::minus_or_zero(n, receipt) < KNOWN_RECEIPTS);
     basics::select64(known, w[at], 0)
 }
 

@@ -61,13 +61,21 @@ textBy (suc n) b = refusedText (suc n)
 abbrev pub textOf : List ℕ → List ℕ
 textOf b = textBy (bookRefusal b) b
 
+-- the longest file that `standing` reads
+abbrev pub longestInput : ℕ
+longestInput = 65_536
+
 -- the text that `standing` prints for what it read: a file of more than 65,536 bytes is refused with 20
 abbrev pub inputText : List ℕ → List ℕ
-inputText b = cond (ltb 65536 (length b)) (refusedText 20) (textOf b)
+inputText b = cond (ltb longestInput (length b)) (refusedText 20) (textOf b)
 
--- bytes that hold the text of n accounts: the heading, and 113 for each line; and those that hold every text
+-- no line of an account is longer
+abbrev pub longestLine : ℕ
+longestLine = 113
+
+-- bytes that hold the text of n accounts: the heading, and so many for each line; and those that hold every text
 abbrev pub roomFor : ℕ → ℕ
-roomFor n = 39 + 113 * n
+roomFor n = 39 + longestLine * n
 
 abbrev pub mostRoom : ℕ
 mostRoom = roomFor mostAccounts

@@ -7,6 +7,7 @@ use account::spans::COLLECTION;
 use account::spans::DEPOSIT;
 use account::spans::LEDGER;
 use account::spans::MEDICAL;
+use bookformat::MOST_ACCOUNTS;
 use bookpost::run_account;
 use line::line_length;
 use line::put_line;
@@ -25,10 +26,18 @@ ghost use Rattle.bookformat.specs.Finding.{bookAccount};
 ghost use Rattle.text.specs.Put.{Put};
 ghost use Rattle.account.specs.State.{accountSize};
 ghost use Rattle.report.specs.Standing.{Stands, standingOn};
-ghost use Rattle.report.specs.Report.{lineOf, linesOf, listing, refusedText, inputText, printedBytes, WroteText, Reported};
+ghost use Rattle.report.specs.Report.{longestLine, lineOf, linesOf, listing, refusedText, inputText, printedBytes, WroteText, Reported};
 
-// Room for every text: 39 bytes for the heading, and at most 113 for each of 1,024 accounts.
-pub const ROOM: usize = 39 + 113 * 1024;
+// The longest file that the program reads.
+pub const LONGEST_INPUT: usize = 65_536;
+
+// The bytes of the heading, and the most that the line of an account takes.
+const FIRST_LINE: usize = 39;
+
+const LINE: usize = 113;
+
+// Room for every text.
+pub const ROOM: usize = FIRST_LINE + LINE * (MOST_ACCOUNTS as usize);
 
 // Where an account stands after its records. What is owed is charged less credits, which may be negative.
 pub struct Standing {
@@ -61,7 +70,7 @@ impl Printed {
 }
 
 // The first line.
-const HEADING: [u8; 39] = *b"account owed held open service refused\n";
+const HEADING: [u8; FIRST_LINE] = *b"account owed held open service refused\n";
 
 const BOOK_REFUSED: [u8; 13] = *b"book refused ";
 
@@ -121,7 +130,7 @@ fn put_lines(b: &[u8], n: usize, out: &mut [u8], p: usize) -> usize
 // How long the line of account i is, 113 bytes at most.
 fn account_length(b: &[u8], i: usize) -> usize
     requires { ⌜ bookRefusal (now b) ≡ 0 ⌝ }
-    ensures { λ r. ⌜ (r ≡ length (lineOf i (bookAccount (now (b .entry)) i))) × (r ≤ 113) ⌝ }
+    ensures { λ r. ⌜ (r ≡ length (lineOf i (bookAccount (now (b .entry)) i))) × (r ≤ longestLine) ⌝ }
 {
     let s = standing_of(b, i);
     line_length(i as u64, s)
@@ -130,7 +139,7 @@ fn account_length(b: &[u8], i: usize) -> usize
 // How long the lines of all n accounts are.
 fn lines_length(b: &[u8], n: usize) -> usize
     requires { ⌜ (bookRefusal (now b) ≡ 0) × (n ≡ accounts (now b)) ⌝ }
-    ensures { λ r. ⌜ (r ≡ length (linesOf 0 (decode (now (b .entry))))) × (r ≤ 113 * n) ⌝ }
+    ensures { λ r. ⌜ (r ≡ length (linesOf 0 (decode (now (b .entry))))) × (r ≤ longestLine * n) ⌝ }
 {
     let mut sum: usize = 0;
     let mut i: usize = 0;
@@ -146,10 +155,10 @@ fn is_short(b: &[u8], n: usize, room: usize) -> bool
     requires { ⌜ (bookRefusal (now b) ≡ 0) × (n ≡ accounts (now b)) ⌝ }
     ensures { λ r. ⌜ r ≡ ltb room (length (listing (now (b .entry)))) ⌝ }
 {
-    if 39 + 113 * n <= room {
+    if FIRST_LINE + LINE * n <= room {
         return false;
     }
-    room < 39 + lines_length(b, n)
+    room < FIRST_LINE + lines_length(b, n)
 }
 
 // Stores the heading and the lines, where the output is long enough.
@@ -194,7 +203,7 @@ pub fn report(b: &[u8], out: &mut [u8]) -> Printed
 pub fn report_input(b: &[u8], out: &mut [u8]) -> Printed
     ensures { λ r. ⌜ WroteText (inputText (now (b .entry))) (now (out .entry)) (now (out .exit)) r ⌝ }
 {
-    if 65_536 < b.len() {
+    if LONGEST_INPUT < b.len() {
         return put_refusal(out, 20);
     }
     report(b, out)

@@ -12,6 +12,7 @@ ghost use Prim.Native.Nat.{_+_, _≤_};
 ghost use lib.ListN.{length};
 ghost use Rattle.rules.specs.Service.{wordOf};
 ghost use Rattle.text.specs.Put.{Put};
+ghost use Rattle.report.specs.Report.{longestLine};
 ghost use Rattle.report.specs.Standing.{moneyPart, statePart, standingLine};
 
 fn word_length(s: Service) -> usize
@@ -77,7 +78,7 @@ pub fn put_line(out: &mut [u8], p: usize, i: u64, s: Standing) -> usize
 
 // How long the line of account i is, 113 bytes at most.
 pub fn line_length(i: u64, s: Standing) -> usize
-    ensures { λ r. ⌜ (r ≡ length (standingLine i s)) × (r ≤ 113) ⌝ }
+    ensures { λ r. ⌜ (r ≡ length (standingLine i s)) × (r ≤ longestLine) ⌝ }
 {
     let service = s.service;
     let money = width(i) + difference_width(s.charged, s.credits) + width(s.held);

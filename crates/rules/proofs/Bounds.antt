@@ -13,14 +13,15 @@ use Rattle.basics.proofs.Lists.{every-in}
 use Rattle.rules.specs.declared.Event.{Event}
 use Rattle.rules.specs.declared.View.{View}
 use Rattle.rules.specs.Kinds.{bill, payment, returnedPayment, fee, depositAsked, depositPaid, arrangement, finalNotice, reconnection}
-use Rattle.rules.specs.History.{History, finalDay, is, within, lastPosted, total}
+use Rattle.rules.specs.Limits.{finalDay, mostDeposit, limit}
+use Rattle.rules.specs.History.{History, is, within, lastPosted, total}
 use Rattle.rules.specs.Fees.{fees, feeOf}
 use Rattle.rules.specs.Receipts.{payments, returned, known, returnable}
 use Rattle.rules.specs.Deposit.{moves, held, required}
 use Rattle.rules.specs.Money.{credited, credits, charges, charge, charged, due, items, arrears}
 use Rattle.rules.specs.Arrangement.{terms, paidSince, returnedSince}
-use Rattle.rules.specs.Range.{mostDeposit, inRange}
-use Rattle.rules.specs.Table.{limit, row7}
+use Rattle.rules.specs.Range.{inRange}
+use Rattle.rules.specs.Table.{row7}
 use Rattle.rules.specs.Accepted.{viewOf, Lawful}
 use Rattle.rules.proofs.Days.{Sorted, within-true}
 use Rattle.rules.proofs.Items.{sum-mono}

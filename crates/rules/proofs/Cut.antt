@@ -7,10 +7,11 @@ use borrow.Author.Tests.{le-ltb, le-leb, lt-leb}
 use Rattle.basics.proofs.Cases.{on-lt}
 use Rattle.rules.specs.declared.Service.{Service}
 use Rattle.rules.specs.declared.Service.the-variants.{On, Off, Closed}
-use Rattle.rules.specs.History.{History, finalDay, within, lastPosted}
+use Rattle.rules.specs.Limits.{finalDay, enough}
+use Rattle.rules.specs.History.{History, within, lastPosted}
 use Rattle.rules.specs.Service.{service, isOn, isClosed}
 use Rattle.rules.specs.Money.{arrears}
-use Rattle.rules.specs.Notice.{enough, noticeInDays, called}
+use Rattle.rules.specs.Notice.{noticeInDays, called}
 use Rattle.rules.specs.Medical.{certified, approved}
 use Rattle.rules.specs.Arrangement.{inForce}
 use Rattle.rules.specs.Range.{inRange}

@@ -12,7 +12,8 @@ use Rattle.rules.specs.Kinds.{payment, returnedPayment, payout}
 use Rattle.rules.specs.History.{is, amountIf}
 use Rattle.rules.specs.Deposit.{moves}
 use Rattle.rules.specs.Money.{charges}
-use Rattle.rules.specs.Table.{limit, chargeOf, creditOf, row7}
+use Rattle.rules.specs.Limits.{limit}
+use Rattle.rules.specs.Table.{chargeOf, creditOf, row7}
 use Rattle.rules.proofs.Sums.{no-charge, no-credit}
 use Rattle.rules.proofs.Passed.{Allowed}
 

@@ -10,12 +10,13 @@ use Rattle.rules.specs.declared.View.{View}
 use Rattle.rules.specs.declared.Answer.{Answer}
 use Rattle.rules.specs.declared.Answer.the-variants.{Accepted, Refused}
 use Rattle.rules.specs.Kinds.{payment, disconnection}
-use Rattle.rules.specs.History.{History, finalDay, is, lastPosted, count}
+use Rattle.rules.specs.Limits.{finalDay, enough}
+use Rattle.rules.specs.History.{History, is, lastPosted, count}
 use Rattle.rules.specs.Service.{service, isOn}
 use Rattle.rules.specs.Deposit.{held, required, earned}
 use Rattle.rules.specs.Receipts.{returnable}
 use Rattle.rules.specs.Money.{charged, credited, credits, openItems, arrears}
-use Rattle.rules.specs.Notice.{enough, noticeLive, noticeInDays, called}
+use Rattle.rules.specs.Notice.{noticeLive, noticeInDays, called}
 use Rattle.rules.specs.Medical.{certified, approved}
 use Rattle.rules.specs.Arrangement.{inForce}
 use Rattle.rules.specs.Range.{inRange}

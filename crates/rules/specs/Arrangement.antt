@@ -3,6 +3,7 @@ use Prim.Native.Nat.{ℕ, _+_, _*_, _-_, _/_, min}
 use mathlib.Core.Bool.{Bool, cond, _&&_}
 use mathlib.Core.List.{[], _∷_}
 use lib.Dec.{leb, ltb}
+use Rattle.rules.specs.Limits.{partDays}
 use Rattle.rules.specs.Kinds.{payment, returnedPayment, arrangement}
 use Rattle.rules.specs.History.{History, is, since, total}
 use Rattle.rules.specs.Receipts.{returnable}
@@ -36,10 +37,10 @@ instalment a = (a .debt + (a .parts - 1)) / a .parts
 
 -- what must be paid by day u: min(D, q × j), j = (u − t) div 30
 abbrev pub dueBy : Terms → ℕ → ℕ
-dueBy a u = min (a .debt) (instalment a * ((u - a .day) / 30))
+dueBy a u = min (a .debt) (instalment a * ((u - a .day) / partDays))
 
 -- in force on u (document 01: stands): u < t + 30n, and payments less returned payments are at least what must be paid
 abbrev pub inForce : History → ℕ → Bool
 inForce h u =
-    ltb u (terms h .day + 30 * terms h .parts)
+    ltb u (terms h .day + partDays * terms h .parts)
     && leb (dueBy (terms h) u + returnedSince h) (paidSince h)

@@ -1,8 +1,9 @@
 -- The deposit: asked, paid, moved to the credits.
-use Prim.Native.Nat.{ℕ, _+_}
+use Prim.Native.Nat.{ℕ, _+_, _-_}
 use mathlib.Core.Bool.{Bool, cond, not, _&&_, _||_}
 use mathlib.Core.List.{[], _∷_}
 use lib.Dec.{leb, ltb, eqb}
+use Rattle.rules.specs.Limits.{year, mostNotices}
 use Rattle.rules.specs.declared.Event.{Event}
 use Rattle.rules.specs.Kinds.{depositAsked, depositPaid, depositMoved, finalNotice, disconnection, closing}
 use Rattle.rules.specs.History.{History, is, within, any, count, since, total, newest}
@@ -35,12 +36,12 @@ fullOn (e ∷ h) = cond (full h) (fullOn h) (e .day)
 
 -- e's day lies in t − 364 to t
 abbrev pub inYear : ℕ → Event → Bool
-inYear t e = within (e .day) (e .day + 364) t
+inYear t e = within (e .day) (e .day + (year - 1)) t
 
 -- earned on t: full for 365 days, at most two notices in t − 364 to t, and no disconnection in those days
 abbrev pub earned : History → ℕ → Bool
 earned h t =
     full h
-    && leb (fullOn h + 365) t
-    && leb (count (λ e. is finalNotice e && inYear t e) h) 2
+    && leb (fullOn h + year) t
+    && leb (count (λ e. is finalNotice e && inYear t e) h) mostNotices
     && not (any (λ e. is disconnection e && inYear t e) h)

@@ -9,10 +9,6 @@ use Rattle.rules.specs.declared.Event.{Event}
 abbrev pub History : Type 0
 History = List Event
 
--- the last day, 31 December 2199; day 0 is 1 January 2000
-abbrev pub finalDay : ℕ
-finalDay = 73_048
-
 -- e is of kind k
 abbrev pub is : ℕ → Event → Bool
 is k e = eqb (e .kind) k

@@ -4,6 +4,7 @@ use mathlib.Core.Bool.{Bool, cond, _||_}
 use mathlib.Core.List.{List, [], _∷_, _++_}
 use lib.Dec.{leb, ltb}
 use lib.IntN.{ℤ, subℕ}
+use Rattle.rules.specs.Limits.{grace}
 use Rattle.rules.specs.declared.Event.{Event}
 use Rattle.rules.specs.declared.Item.{Item}
 use Rattle.rules.specs.Kinds.{bill, payment, returnedPayment, fee, payout, finalNotice, reconnection}
@@ -84,7 +85,7 @@ openItems h = keep (λ x. ltb 0 (unpaid (credits h) x)) (items h)
 
 -- the unpaid part of an item that is delinquent on t: its day + 20 ≤ t
 abbrev pub due : ℕ → ℕ → Item → ℕ
-due p t x = cond (leb (x .day + 20) t) (unpaid p x) 0
+due p t x = cond (leb (x .day + grace) t) (unpaid p x) 0
 
 -- arrears on t: the unpaid parts of delinquent items
 abbrev pub arrears : History → ℕ → ℕ

@@ -6,19 +6,8 @@ use mathlib.Core.List.{List, [], _∷_}
 use lib.ListN.{getD}
 use Rattle.rules.specs.declared.Event.{Event}
 use Rattle.rules.specs.declared.Fields.{Fields}
-use Rattle.rules.specs.History.{finalDay, within}
-
--- the largest amount A
-abbrev pub mostAmount : ℕ
-mostAmount = 10_000_000_000
-
--- the largest sum that may be asked as a deposit
-abbrev pub mostDeposit : ℕ
-mostDeposit = 100_000_000
-
--- a receipt is any number from 1 on: up to the largest that an event can hold
-abbrev pub mostReceipt : ℕ
-mostReceipt = 18_446_744_073_709_551_615
+use Rattle.rules.specs.Limits.{finalDay, mostAmount, mostDeposit, mostReceipt, certificateDays, approvalDays, leastParts, mostParts}
+use Rattle.rules.specs.History.{within}
 
 -- the amount lies in 1 to n, and the option is not named
 abbrev pub amountTo : ℕ → Fields
@@ -55,10 +44,10 @@ fields =
     -- 8 payout: an amount A
     ∷ amountTo mostAmount
     -- 9 certificate, 10 approval: a number of days
-    ∷ amountTo 180
-    ∷ amountTo 30
+    ∷ amountTo certificateDays
+    ∷ amountTo approvalDays
     -- 11 arrangement: a number of parts
-    ∷ optionIn 2 6
+    ∷ optionIn leastParts mostParts
     -- 12 final notice, 13 call, 14 disconnection
     ∷ plain
     ∷ plain

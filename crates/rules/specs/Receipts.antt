@@ -4,6 +4,7 @@ use mathlib.Core.Bool.{Bool, cond, not, _&&_}
 use mathlib.Core.List.{List, [], _∷_}
 use lib.Dec.{ltb, eqb}
 use lib.ListN.{length, getD}
+use Rattle.rules.specs.Limits.{knownReceipts}
 use Rattle.rules.specs.Kinds.{payment, returnedPayment}
 use Rattle.rules.specs.History.{History, is, within, any}
 
@@ -18,7 +19,7 @@ returned h r = any (λ e. is returnedPayment e && eqb (e .amount) r) h
 
 -- known: the newest 32 payments, each returned once
 abbrev pub known : History → ℕ → Bool
-known h r = within 1 (length (payments h)) r && ltb (length (payments h) - r) 32 && not (returned h r)
+known h r = within 1 (length (payments h)) r && ltb (length (payments h) - r) knownReceipts && not (returned h r)
 
 -- the accepted payment of a known receipt; 0, which no payment is, of any other
 abbrev pub returnable : History → ℕ → ℕ

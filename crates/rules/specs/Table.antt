@@ -10,15 +10,7 @@ use Rattle.rules.specs.History.{is}
 use Rattle.rules.specs.Service.{isOn, isOff, isClosed}
 use Rattle.rules.specs.Deposit.{moves}
 use Rattle.rules.specs.Money.{charges, chargeBy, creditBy}
-use Rattle.rules.specs.Notice.{enough}
-
--- the most that C, or payments plus deposits moved, may come to
-abbrev pub limit : ℕ
-limit = 1_000_000_000_000
-
--- the most items that may be open
-abbrev pub mostOpen : ℕ
-mostOpen = 64
+use Rattle.rules.specs.Limits.{enough, limit, mostOpen}
 
 -- the amount of the item that e makes, by the View
 abbrev pub chargeOf : View → Event → ℕ

@@ -2,6 +2,7 @@
 // that says by which number the book is refused.
 use libc::STDIN_FILENO;
 use libc::STDOUT_FILENO;
+use report::LONGEST_INPUT;
 use report::ROOM;
 use report::report_input;
 ghost use mathlib.Core.Path.{_≡_};
@@ -25,7 +26,7 @@ fn write(book: &[u8], text: &[u8])
 
 // One byte more is read than a book may have, so that a longer file is seen.
 fn main() {
-    let mut book = [0u8; 65_537];
+    let mut book = [0u8; LONGEST_INPUT + 1];
     let mut out = [0u8; ROOM];
     let n = io::read_full(STDIN_FILENO, &mut book);
     let length = print(&book[..n], &mut out);

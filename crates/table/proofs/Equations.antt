@@ -6,7 +6,7 @@ use lib.Dec.{ltb}
 use borrow.Author.Tests.{lt-ltb, le-ltb}
 use Rattle.basics.specs.Machine.{largest}
 use Rattle.basics.proofs.Cases.{on-lt}
-use Rattle.rules.specs.Table.{limit}
+use Rattle.rules.specs.Limits.{limit}
 
 same-test : (x y : ℕ) → (limit < x → limit < y) → (x ≤ limit → y ≤ limit) → ltb limit x ≡ ltb limit y
 same-test x y f g = on-lt limit x (λ q l. q ∙ sym (lt-ltb limit y (f l))) (λ q l. q ∙ sym (le-ltb limit y (g l)))

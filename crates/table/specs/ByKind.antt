@@ -6,8 +6,8 @@ use lib.ListN.{drop}
 use Rattle.rules.specs.declared.Event.{Event}
 use Rattle.rules.specs.declared.View.{View}
 use Rattle.rules.specs.Service.{isOn, isOff}
-use Rattle.rules.specs.Notice.{enough}
-use Rattle.rules.specs.Table.{limit, mostOpen, table, firstOf}
+use Rattle.rules.specs.Limits.{enough, limit, mostOpen}
+use Rattle.rules.specs.Table.{table, firstOf}
 
 -- what row 4 leaves to the rows after it
 unfoldable pub fromRow5 : View → Event → ℕ

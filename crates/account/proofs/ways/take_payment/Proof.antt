@@ -2,7 +2,7 @@ use Prim.Native.Nat.{zero-le}
 use Rattle.basics.proofs.Cases.{at-most}
 use Rattle.rules.specs.Kinds.{returnedPayment}
 use Rattle.rules.specs.History.{is}
-use Rattle.rules.specs.Table.{limit}
+use Rattle.rules.specs.Limits.{limit}
 use Rattle.account.proofs.Steps.{receipts-still, arrangement-still}
 use Rattle.account.proofs.OwnWays.{payment-ledger, payment-by}
 use borrow.Author.Needs.{needs}
