@@ -4,8 +4,9 @@
 //! What lasts to which day, and what is in arrears, is asked of the core. The days and counts that can't be asked have a
 //! name each, so that a test holds them against the core at all their ends (tools/tests/hints.rs).
 use crate::core::Account;
+use crate::dates::{day, LAST_DAY};
 use crate::event::Event;
-use crate::words::{day, money, LAST_DAY};
+use crate::words::money;
 use std::fmt;
 
 const PAYMENT: u8 = 2;

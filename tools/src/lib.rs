@@ -3,11 +3,13 @@
 pub mod columns;
 pub mod command;
 pub mod core;
+pub mod dates;
 pub mod event;
 pub mod files;
 pub mod hints;
 pub mod kinds;
 pub mod service;
+pub mod shown;
 pub mod story;
 pub mod text;
 pub mod words;

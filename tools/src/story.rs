@@ -2,7 +2,7 @@
 use crate::core::Reply;
 use crate::event::Event;
 use crate::hints::{self, Before};
-use crate::{kinds, words};
+use crate::{dates, kinds, words};
 
 /// The cells of one line, as they are shown.
 struct Line {
@@ -44,7 +44,7 @@ fn lines(events: &[Event], replies: &[Reply]) -> Vec<Line> {
         }
         lines.push(Line {
             day: event.day.to_string(),
-            date: words::date(event.day).unwrap_or_else(|| "-".to_string()),
+            date: dates::date(event.day).unwrap_or_else(|| "-".to_string()),
             event: words::event(event),
             answer: answer(event, reply.number, receipt),
             owed: words::money(reply.owed.into()),

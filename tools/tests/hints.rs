@@ -5,12 +5,12 @@ mod common;
 use common::last_answer;
 use std::ops::RangeInclusive;
 use tools::core::Answer;
+use tools::dates::day;
 use tools::event::Event;
 use tools::hints::{
     arrears_days, call_days, conduct_from, full_days, hint, notice_days, Before, Days,
     DEPOSIT_NOTICES, RETURNABLE,
 };
-use tools::words::day;
 
 fn bill(day: u32, amount: u64) -> Event {
     Event::of(1, day, amount)
