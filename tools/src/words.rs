@@ -65,6 +65,17 @@ pub fn reason(number: u8, kind: u8) -> &'static str {
     }
 }
 
+/// What a kind adds to what is owed, beyond the sum that the event itself speaks of.
+pub fn added(kind: u8) -> &'static str {
+    match kind {
+        1 => "late charge",
+        3 => "returned check fee",
+        12 => "final notice fee",
+        15 => "reconnection fee",
+        _ => "fee",
+    }
+}
+
 /// Cents as money, 110.75 for 11075.
 pub fn money(cents: i128) -> String {
     let sign = if cents < 0 { "-" } else { "" };

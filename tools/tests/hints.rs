@@ -61,7 +61,9 @@ fn lawful(day: u32) -> [Event; 3] {
 /// The account before an event, as its hint looks at it.
 fn before(events: &[Event]) -> Before {
     let mut before = Before::default();
-    events.iter().for_each(|&event| before.accept(event));
+    for &event in events {
+        assert!(matches!(before.post(event), Answer::Accepted(_)));
+    }
     before
 }
 

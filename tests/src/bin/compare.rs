@@ -138,7 +138,7 @@ impl ByLibrary {
         if book.is_good() {
             self.replies(book);
         }
-        if index % 16 == 0 {
+        if index.is_multiple_of(16) {
             self.beginnings(book);
         }
         self.kept.book(seed, index, book);
