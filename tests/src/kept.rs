@@ -136,14 +136,16 @@ impl Accounts {
             "the library's version and the words of an account",
             &lengths::said(),
         );
-        tally.reached(
-            "every answer for a day, and both sides of a change",
-            &self.reached.missing(),
-        );
-        tally.reached(
-            "turned bits that the core sees, and some that it can't",
-            &self.not_reached(),
-        );
+    }
+
+    /// What the accounts up to here have to reach, and what of it they did not.
+    pub fn demands(&self) -> Vec<(String, Vec<String>)> {
+        let days = "every answer for a day, and both sides of a change";
+        let bits = "turned bits that the core sees, and some that it can't";
+        vec![
+            (days.to_string(), self.reached.missing()),
+            (bits.to_string(), self.not_reached()),
+        ]
     }
 
     fn not_reached(&self) -> Vec<String> {

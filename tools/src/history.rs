@@ -104,11 +104,14 @@ impl History {
         Step { answer, ..step }
     }
 
+    /// The payment that an event says came back.
     fn payment_returned(&self, event: &Event) -> Option<u64> {
+        if event.kind != RETURNED {
+            return None;
+        }
         let mut payments = self.payments.iter();
-        let is_meant =
-            |(receipt, _): &&(u64, u64)| event.kind == RETURNED && *receipt == event.amount;
-        payments.find(is_meant).map(|&(_, amount)| amount)
+        let meant = payments.find(|(receipt, _)| *receipt == event.amount);
+        meant.map(|&(_, amount)| amount)
     }
 
     fn hint(&self, event: &Event) -> Option<String> {

@@ -89,6 +89,8 @@ fn arguments() -> Result<Wanted, String> {
 #[derive(Default)]
 struct ByLibrary {
     coverage: Coverage,
+    /// What the books of the first seed had to reach, and what of it they did not.
+    demands: Vec<(String, Vec<String>)>,
     good: Group,
     damaged: Group,
     histories: Group,
@@ -104,44 +106,42 @@ fn by_library(shares: &[Share]) -> ByLibrary {
     let mut all = ByLibrary::default();
     for (turn, share) in shares.iter().enumerate() {
         for index in 0..share.books {
-            let book = books::book(share.seed, index);
-            let expected = peer::report(&book.bytes);
-            // What has to be reached is asked of the first seed alone: whether a run passes must not hang on the day.
-            if turn == 0 {
-                all.cover(&book, &expected);
-            }
-            all.book(share.seed, index, &book, &expected);
+            all.book(share.seed, index);
+        }
+        // What has to be reached is asked of the first seed alone: whether a run passes must not hang on the day.
+        if turn == 0 {
+            all.demands = all.coverage.demands();
+            all.demands.extend(all.kept.demands());
         }
     }
     all
 }
 
 impl ByLibrary {
-    fn cover(&mut self, book: &Book, expected: &[u8]) {
-        self.coverage.book(expected);
+    /// Book number `index` of a seed, in every way.
+    fn book(&mut self, seed: u64, index: u64) {
+        let book = books::book(seed, index);
+        let expected = peer::report(&book.bytes);
+        self.coverage.book(&expected);
         for history in &book.histories {
             self.coverage.history(&history.events, &history.posted);
         }
-    }
-
-    /// Book number `index` of a seed, in every way.
-    fn book(&mut self, seed: u64, index: u64, book: &Book, expected: &[u8]) {
         let group = match book.damaged {
             true => &mut self.damaged,
             false => &mut self.good,
         };
-        group.try_one(|| library::compare_report(&book.bytes, expected));
+        group.try_one(|| library::compare_report(&book.bytes, &expected));
         // A text that differs was shown, and would differ in any memory.
-        if library::agrees(&book.bytes, expected) {
-            self.lend(index, &book.bytes, expected);
+        if library::agrees(&book.bytes, &expected) {
+            self.lend(index, &book.bytes, &expected);
         }
         if book.is_good() {
-            self.replies(book);
+            self.replies(&book);
         }
         if index.is_multiple_of(16) {
-            self.beginnings(book);
+            self.beginnings(&book);
         }
-        self.kept.book(seed, index, book);
+        self.kept.book(seed, index, &book);
         self.lists.book(index as usize, &book.bytes);
     }
 
@@ -175,8 +175,8 @@ impl ByLibrary {
     }
 
     fn tell(&self, tally: &mut Tally) {
-        for (demand, missing) in self.coverage.demands() {
-            tally.reached(&demand, &missing);
+        for (demand, missing) in &self.demands {
+            tally.reached(demand, missing);
         }
         self.good.tell(tally, "books by the library");
         self.damaged.tell(tally, "damaged books by the library");
