@@ -59,51 +59,51 @@ fn without_arguments_the_help_is_a_complaint() {
     assert_eq!(complaint(&run("", b""), 2), help);
 }
 
+/// The usage of each command, and of the command without one.
+const USAGES: [(&str, &str); 5] = [
+    (
+        "hollupaq",
+        "hollupaq COMMAND ..   (`hollupaq help` lists the commands)",
+    ),
+    (
+        "hollupaq why",
+        "hollupaq why BOOK [N] [--on DAY | --try 'DAY EVENT ..' | --csv]",
+    ),
+    ("hollupaq pack", "hollupaq pack TEXT [BOOK]"),
+    ("hollupaq unpack", "hollupaq unpack BOOK [TEXT]"),
+    ("hollupaq standing", "hollupaq standing BOOK"),
+];
+
+/// Wrong calls, and the reason that each is told.
+const WRONG: &str = "\
+wy => hollupaq: there is no command `wy`
+help wy => hollupaq: there is no command `wy`
+--verbose => hollupaq: `--verbose` is not known
+--version 2 => hollupaq: `2` is one word too many
+help why pack => hollupaq: `pack` is one word too many
+why => hollupaq why: BOOK is missing
+why - 0 1 => hollupaq why: `1` is one word too many
+why - --all => hollupaq why: `--all` is not known
+why - --on => hollupaq why: DAY is missing after --on
+why - --csv=1 => hollupaq why: nothing follows --csv
+why - --csv --csv => hollupaq why: --csv is given twice
+why - --csv --on 5 => hollupaq why: --csv and --on do not go together
+why - one => hollupaq why: N is the number of an account, 0 or more, and not `one`
+pack => hollupaq pack: TEXT is missing
+pack a b c => hollupaq pack: `c` is one word too many
+unpack => hollupaq unpack: BOOK is missing
+unpack -x => hollupaq unpack: `-x` is not known
+standing => hollupaq standing: BOOK is missing
+standing a 0 => hollupaq standing: `0` is one word too many";
+
 #[test]
 fn a_wrong_call_is_told_with_its_usage() {
-    let all = "usage: hollupaq COMMAND ..   (`hollupaq help` lists the commands)";
-    let why = "usage: hollupaq why BOOK [N] [--on DAY | --try 'DAY EVENT ..' | --csv]";
-    let pack = "usage: hollupaq pack TEXT [BOOK]";
-    let unpack = "usage: hollupaq unpack BOOK [TEXT]";
-    let standing = "usage: hollupaq standing BOOK";
-    let wrong = [
-        ("wy", "hollupaq: there is no command `wy`", all),
-        ("help wy", "hollupaq: there is no command `wy`", all),
-        ("--verbose", "hollupaq: `--verbose` is not known", all),
-        ("--version 2", "hollupaq: `2` is one word too many", all),
-        (
-            "help why pack",
-            "hollupaq: `pack` is one word too many",
-            all,
-        ),
-        ("why", "hollupaq why: BOOK is missing", why),
-        ("why - 0 1", "hollupaq why: `1` is one word too many", why),
-        ("why - --all", "hollupaq why: `--all` is not known", why),
-        ("why - --on", "hollupaq why: DAY is missing after --on", why),
-        ("why - --csv=1", "hollupaq why: nothing follows --csv", why),
-        (
-            "why - --csv --on 5",
-            "hollupaq why: --csv and --on do not go together",
-            why,
-        ),
-        (
-            "why - one",
-            "hollupaq why: N is the number of an account, 0 or more, and not `one`",
-            why,
-        ),
-        ("pack", "hollupaq pack: TEXT is missing", pack),
-        (
-            "pack a b c",
-            "hollupaq pack: `c` is one word too many",
-            pack,
-        ),
-        ("unpack", "hollupaq unpack: BOOK is missing", unpack),
-        ("unpack -x", "hollupaq unpack: `-x` is not known", unpack),
-        ("standing", "hollupaq standing: BOOK is missing", standing),
-    ];
-    for (words, reason, usage) in wrong {
+    for line in WRONG.lines() {
+        let (words, reason) = line.split_once(" => ").unwrap();
+        let name = reason.split(':').next().unwrap();
+        let (_, usage) = USAGES.iter().find(|(called, _)| *called == name).unwrap();
         let told = complaint(&run(words, b""), 2);
-        assert_eq!(told, format!("{reason}\n{usage}\n"), "{words}");
+        assert_eq!(told, format!("{reason}\nusage: {usage}\n"), "{words}");
     }
 }
 

@@ -134,107 +134,22 @@ fn what_is_read_is_not_written_over() {
 #[cfg(target_os = "linux")]
 mod on_linux {
     use super::*;
-    use run::run_into;
-    use std::fs::{File, Permissions};
-    use std::io::pipe;
+    use std::fs::Permissions;
     use std::os::unix::fs::{symlink, MetadataExt, PermissionsExt};
     use std::process::Command;
-
-    /// Calls that print something, with what they read.
-    fn calls() -> Vec<(&'static str, Vec<u8>)> {
-        let book = || pack(TEXT);
-        vec![
-            ("pack -", TEXT.to_vec()),
-            ("unpack -", book()),
-            ("why -", book()),
-            ("why - --csv", book()),
-            ("why - --on 131", book()),
-            ("standing -", book()),
-            ("--help", vec![]),
-            ("why --help", vec![]),
-            ("--version", vec![]),
-        ]
-    }
-
-    /// The name with which a call's complaints begin.
-    fn caller(words: &str) -> String {
-        match words.split(' ').next().unwrap() {
-            option if option.starts_with('-') => "hollupaq".to_string(),
-            command => format!("hollupaq {command}"),
-        }
-    }
-
-    #[test]
-    fn a_full_output_is_told() {
-        for (words, input) in calls() {
-            let full = File::options().write(true).open("/dev/full").unwrap();
-            let told = complaint(&run_into(full, words, &input), 1);
-            let name = caller(words);
-            assert_eq!(
-                told,
-                format!("{name}: can't write standard output: No space left on device\n"),
-            );
-        }
-    }
-
-    #[test]
-    fn a_closed_output_is_told() {
-        for (words, input) in calls() {
-            let line = format!("hollupaq {words} >&-");
-            let told = complaint(&shell(&line, Path::new("."), &input), 1);
-            let name = caller(words);
-            assert_eq!(
-                told,
-                format!("{name}: can't write standard output: it is closed\n"),
-            );
-        }
-    }
 
     #[test]
     fn a_closed_input_is_no_empty_text() {
         let (folder, _) = beside_old("closed");
         for words in ["pack - a.book", "unpack - a.txt", "why -", "standing -"] {
             let told = complaint(&shell(&format!("hollupaq {words} <&-"), &folder, b""), 1);
-            let name = caller(words);
+            let command = words.split(' ').next().unwrap();
             assert_eq!(
                 told,
-                format!("{name}: can't read standard input: it is closed\n"),
+                format!("hollupaq {command}: can't read standard input: it is closed\n"),
             );
         }
         is_as_before(&folder);
-    }
-
-    #[test]
-    fn a_reader_that_stopped_is_no_error() {
-        for (words, input) in calls() {
-            let (reader, writer) = pipe().unwrap();
-            drop(reader);
-            let output = run_into(writer, words, &input);
-            assert_eq!(String::from_utf8(output.stderr).unwrap(), "", "{words}");
-            assert_eq!(output.status.code(), Some(0), "{words}");
-        }
-    }
-
-    /// More than a pipe holds, of which only the first line is read.
-    #[test]
-    fn the_first_line_can_be_taken() {
-        let text = format!("account\n{}", "5 call\n".repeat(10_000));
-        let line = "{ hollupaq why -; echo $? >&2; } | head -n 1";
-        let output = shell(line, Path::new("."), &pack(text.as_bytes()));
-        assert_eq!(output.stdout, b"Account 0 of 1. Sums are in dollars.\n");
-        assert_eq!(output.stderr, b"0\n");
-    }
-
-    #[test]
-    fn nobody_has_to_hear_a_complaint() {
-        for closed in ["2>/dev/full", "2>&-"] {
-            for (words, status) in [("why no-such-file", 1), ("why", 2), ("", 2)] {
-                let line = format!("hollupaq {words} {closed}");
-                let output = shell(&line, Path::new("."), b"");
-                assert_eq!(output.status.code(), Some(status), "{line}");
-                assert_eq!(output.stdout, b"", "{line}");
-            }
-        }
     }
 
     /// A file that may not become longer fails as one does on a full disk, after it was made.
@@ -250,16 +165,12 @@ mod on_linux {
         is_as_before(&folder);
     }
 
+    /// Pipes only: were a device of the machine named here, a mistake in the command could take its place.
     #[test]
-    fn a_device_is_written_to_and_not_replaced() {
-        let told = complaint(&run("pack - /dev/full", TEXT), 1);
-        assert_eq!(
-            told,
-            "hollupaq pack: can't write /dev/full: No space left on device\n"
-        );
+    fn a_pipe_is_written_to_and_not_replaced() {
         let piped = shell("hollupaq pack - /dev/stdout | cat", Path::new("."), TEXT);
         assert_eq!(piped.stdout, pack(TEXT));
-        let folder = folder("device");
+        let folder = folder("pipe");
         let fifo = "mkfifo pipe && { timeout 10 cat pipe & } && hollupaq pack - pipe && wait";
         assert_eq!(shell(fifo, &folder, TEXT).stdout, pack(TEXT));
         assert_eq!(names(&folder), ["pipe"]);
