@@ -113,6 +113,8 @@ fn control_bytes_of_a_call_are_shown_by_their_numbers() {
     assert!(told.starts_with("hollupaq: there is no command `\\u{1b}[2J`\n"));
     let told = complaint(&run_words(&["why", "no\u{7}\nfile"], b""), 1);
     assert!(told.starts_with("hollupaq why: can't read no\\u{7}\\nfile: "));
+    let told = complaint(&run_words(&["why", ""], b""), 1);
+    assert!(told.starts_with("hollupaq why: can't read '': "), "{told}");
 }
 
 #[test]

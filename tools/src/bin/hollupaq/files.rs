@@ -110,8 +110,12 @@ fn keep_owner(file: &File, old: &Metadata) {
 #[cfg(not(unix))]
 fn keep_owner(_: &File, _: &Metadata) {}
 
+/// A name as messages show it. An empty one is seen by its quotes.
 fn told(name: &OsStr) -> String {
-    shown(&name.to_string_lossy())
+    match name.is_empty() {
+        true => "''".to_string(),
+        false => shown(&name.to_string_lossy()),
+    }
 }
 
 /// Why something failed, without the number that the system has for it.
