@@ -4,7 +4,7 @@ use std::io::Write;
 use std::process::{Command, Stdio};
 use std::time::Instant;
 use tools::event::Event;
-use tools::words;
+use tools::{dates, words};
 
 const RUNS: usize = 7;
 
@@ -28,7 +28,7 @@ pub fn journal(list: &[Vec<Event>]) -> String {
         .flat_map(|(index, account)| account.iter().map(move |event| (index, event)));
     let mut text = String::new();
     for (index, event) in events.step_by(2) {
-        let date = words::date(event.day).expect("a day in range");
+        let date = dates::date(event.day).expect("a day in range");
         let sum = words::money(event.amount.into());
         let what = words::event(event);
         text += &format!("{date} {what}\n    customers:{index}  {sum}\n    utility\n\n");

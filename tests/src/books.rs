@@ -28,8 +28,8 @@ impl Book {
 
 /// Book number `index` of a seed. Each is made from its own numbers, so that one can be made without the others.
 pub fn book(seed: u64, index: u64) -> Book {
-    let start = Random::new(seed).next().wrapping_add(index);
-    let mut random = Random::new(Random::new(start).next());
+    let start = Random::new(seed).draw().wrapping_add(index);
+    let mut random = Random::new(Random::new(start).draw());
     let accounts = random.pick(&[1, 1, 1, 2, 2, 4]);
     let histories: Vec<History> = (0..accounts).map(|_| history(&mut random)).collect();
     let list: Vec<Vec<Event>> = histories.iter().map(|h| h.events.clone()).collect();

@@ -96,7 +96,18 @@ impl Accounts {
     }
 
     pub fn tell(&self, tally: &mut Tally) {
-        let groups = [
+        let groups = self.of_answers().into_iter().chain(self.of_memory());
+        for (group, words) in groups {
+            group.tell(tally, &format!("kept accounts, {words}"));
+        }
+        tally.check(
+            "the library's version and the words of an account",
+            &lengths::said(),
+        );
+    }
+
+    fn of_answers(&self) -> Vec<(&Group, &'static str)> {
+        vec![
             (
                 &self.answers,
                 "each answer with its number or receipt and what is owed after it",
@@ -122,28 +133,28 @@ impl Accounts {
                 "arrears, arrangement, notice and certificate for days, after each event",
             ),
             (&self.by_value, "the same answers by value"),
+        ]
+    }
+
+    fn of_memory(&self) -> Vec<(&Group, &'static str)> {
+        vec![
             (&self.refused, "as they were after a refused event"),
             (&self.alone, "the same bytes by the accepted events alone"),
             (&self.around, "the memory around them as it was"),
             (&self.lengths, "in memory of another length refused"),
             (&self.many, "three in one memory as three apart"),
             (&self.turned, "with bits turned, answered or refused"),
-        ];
-        for (group, words) in groups {
-            group.tell(tally, &format!("kept accounts, {words}"));
-        }
-        tally.check(
-            "the library's version and the words of an account",
-            &lengths::said(),
-        );
-        tally.reached(
-            "every answer for a day, and both sides of a change",
-            &self.reached.missing(),
-        );
-        tally.reached(
-            "turned bits that the core sees, and some that it can't",
-            &self.not_reached(),
-        );
+        ]
+    }
+
+    /// What the accounts up to here have to reach, and what of it they did not.
+    pub fn demands(&self) -> Vec<(String, Vec<String>)> {
+        let days = "every answer for a day, and both sides of a change";
+        let bits = "turned bits that the core sees, and some that it can't";
+        vec![
+            (days.to_string(), self.reached.missing()),
+            (bits.to_string(), self.not_reached()),
+        ]
     }
 
     fn not_reached(&self) -> Vec<String> {

@@ -13,6 +13,7 @@ pub mod make;
 pub mod peer;
 pub mod program;
 pub mod random;
+pub mod seeds;
 pub mod show;
 pub mod shrink;
 pub mod tally;

@@ -74,7 +74,7 @@ fn readme_has_every_refusal_once() {
     assert_eq!(numbers, (1..=22).collect::<Vec<u64>>());
 }
 
-/// For each name of a rule, a history whose last event it refuses, as bookfile reads it.
+/// For each name of a rule, a history whose last event it refuses, as the text of a book has it.
 fn histories() -> Vec<(&'static str, String)> {
     let noticed = "0 bill 6000; 20 notice; ";
     let cut = "0 bill 6000; 20 notice; 22 call; 25 cut; ";
@@ -198,7 +198,7 @@ fn an_account_begins_with_its_layout() {
     let account = fresh();
     assert_eq!(account[0], layout);
     assert_eq!(lent::ok(&account), 1);
-    let last_day = u64::from(tools::words::LAST_DAY);
+    let last_day = u64::from(tools::dates::LAST_DAY);
     for other in [0, last_day, layout - 1, layout + 1, u64::MAX] {
         let mut account = account;
         account[0] = other;

@@ -3,9 +3,10 @@
 //!
 //! What lasts to which day, and what is in arrears, is asked of the core. The days and counts that can't be asked have a
 //! name each, so that a test holds them against the core at all their ends (tools/tests/hints.rs).
-use crate::core::Account;
+use crate::core::{Account, Answer};
+use crate::dates::{day, LAST_DAY};
 use crate::event::Event;
-use crate::words::{day, money, LAST_DAY};
+use crate::words::money;
 use std::fmt;
 
 const PAYMENT: u8 = 2;
@@ -71,17 +72,24 @@ pub fn conduct_from(t: u32) -> u32 {
 }
 
 /// An account before an event.
-#[derive(Default)]
+#[derive(Clone, Default)]
 pub struct Before {
     accepted: Vec<Event>,
     account: Account,
 }
 
 impl Before {
-    /// Takes an event that the core accepted.
-    pub fn accept(&mut self, event: Event) {
-        self.account.post(event);
-        self.accepted.push(event);
+    /// Posts an event, and keeps it where the core accepts it.
+    pub fn post(&mut self, event: Event) -> Answer {
+        let answer = self.account.post(event);
+        if let Answer::Accepted(_) = answer {
+            self.accepted.push(event);
+        }
+        answer
+    }
+
+    pub fn account(&self) -> &Account {
+        &self.account
     }
 
     /// The newest event of a kind.
@@ -90,7 +98,7 @@ impl Before {
     }
 
     /// The last of the days from t on for which the core says yes, one after another.
-    fn last_day(&self, t: u32, ask: fn(&Account, u32) -> Result<bool, u8>) -> Option<u32> {
+    pub fn last_day(&self, t: u32, ask: fn(&Account, u32) -> Result<bool, u8>) -> Option<u32> {
         (t..=LAST_DAY)
             .take_while(|&day| ask(&self.account, day) == Ok(true))
             .last()
@@ -104,12 +112,14 @@ pub fn hint(number: u8, event: &Event, before: &Before) -> Option<String> {
         2 => last_event(before),
         6 => Some(receipt(event.amount, before)),
         8 => Some(deposit(t)),
+        9 => arrangement_refused(t, before),
         10 | 16 => arrears(t, before),
         11 => live_notice(t, before),
         12 => notice(t, before),
         13 => call(t, before),
         14 => arrangement(t, before),
         15 => certificate(t, before),
+        17 => Some(required(before)),
         _ => None,
     }
 }
@@ -145,13 +155,28 @@ fn deposit(t: u32) -> String {
 }
 
 fn arrears(t: u32, before: &Before) -> Option<String> {
-    let sum = money(before.account.arrears(t).ok()?.into());
-    Some(match arrears_days(t) {
-        Some(days) => format!(
-            "{sum} are in arrears, what is unpaid of charges up to {}",
-            day(days.last)
+    let cents = before.account.arrears(t).ok()?;
+    let Some(days) = arrears_days(t) else {
+        return Some(format!(
+            "nothing is in arrears before day {IN_ARREARS_AFTER}"
+        ));
+    };
+    let last = day(days.last);
+    Some(match cents {
+        0 => format!("nothing is in arrears: no charge up to {last} is unpaid"),
+        _ => format!(
+            "{} are in arrears, what is unpaid of charges up to {last}",
+            money(cents.into())
         ),
-        None => format!("nothing is in arrears before day {IN_ARREARS_AFTER}"),
+    })
+}
+
+/// Either can be the reason, so that both are told.
+fn arrangement_refused(t: u32, before: &Before) -> Option<String> {
+    let arrears = arrears(t, before)?;
+    Some(match arrangement(t, before) {
+        Some(made) => format!("{made}; {arrears}"),
+        None => arrears,
     })
 }
 
@@ -198,6 +223,12 @@ fn arrangement(t: u32, before: &Before) -> Option<String> {
     ))
 }
 
+fn required(before: &Before) -> String {
+    let required = money(before.account.required().into());
+    let held = money(before.account.held().into());
+    format!("{required} are required, and {held} held")
+}
+
 fn certificate(t: u32, before: &Before) -> Option<String> {
     let last = before.last_day(t, Account::certified)?;
     Some(format!("a certificate is live to {}", day(last)))
@@ -206,18 +237,16 @@ fn certificate(t: u32, before: &Before) -> Option<String> {
 #[cfg(test)]
 mod tests {
     use super::*;
-    use crate::core::Answer;
 
     /// The account after events that the core accepts.
     fn before(events: &[Event]) -> Before {
         let mut before = Before::default();
         for &event in events {
-            let answer = before.account.clone().post(event);
+            let answer = before.post(event);
             assert!(
                 matches!(answer, Answer::Accepted(_)),
                 "{event:?} {answer:?}"
             );
-            before.accept(event);
         }
         before
     }
@@ -261,6 +290,35 @@ mod tests {
             "49.99 are in arrears, what is unpaid of charges up to day 5 (2000-01-06)"
         );
         assert_eq!(cut(10, 19, &[]), "nothing is in arrears before day 20");
+        assert_eq!(
+            cut(10, 25, &[event(1, 6, 4_999)]),
+            "nothing is in arrears: no charge up to day 5 (2000-01-06) is unpaid"
+        );
+    }
+
+    #[test]
+    fn an_arrangement_has_nothing_to_be_about_or_one_is_in_force() {
+        let made = Event::new(ARRANGEMENT, 3, 22, 0);
+        let told = |events: &[Event]| hint(9, &Event { day: 25, ..made }, &before(events)).unwrap();
+        assert_eq!(
+            told(&[event(1, 6, 60)]),
+            "nothing is in arrears: no charge up to day 5 (2000-01-06) is unpaid"
+        );
+        assert_eq!(
+            told(&noticed(&[made])),
+            "it was made on day 22 (2000-01-23) in 3 parts; without another payment it is in force to day 51 (2000-02-21); \
+             60.00 are in arrears, what is unpaid of charges up to day 5 (2000-01-06)"
+        );
+    }
+
+    #[test]
+    fn a_reconnection_shows_the_deposit_that_it_wants() {
+        let events = [event(5, 20, 24_000), event(6, 21, 10_050)];
+        let told = hint(17, &event(15, 25, 0), &before(&events));
+        assert_eq!(
+            told.as_deref(),
+            Some("240.00 are required, and 100.50 held")
+        );
     }
 
     #[test]
@@ -308,7 +366,7 @@ mod tests {
 
     #[test]
     fn other_numbers_speak_for_themselves() {
-        for number in [0, 1, 3, 4, 5, 7, 9, 17, 18, 19] {
+        for number in [0, 1, 3, 4, 5, 7, 18, 19] {
             let none = hint(number, &event(14, 25, 0), &before(&NOTICED));
             assert_eq!(none, None);
         }

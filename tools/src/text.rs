@@ -7,11 +7,13 @@
 //!   131 cut
 //! ```
 //!
-//! A line is the day, the event's word, and the number that the event names: an amount, a receipt, days, parts. What
-//! follows `#` is for the reader. A field that the event does not name is written `option=N` or `amount=N` where it is
-//! not 0, so that every book has a text.
+//! A line is the day, the event's word, and the number that the event names: an amount, a receipt, days, parts. The day may
+//! be a date, 2000-04-10, and an event may have another of its names (`kinds`). What follows `#` is for the reader. A field
+//! that the event does not name is written `option=N` or `amount=N` where it is not 0, so that every book has a text.
+use crate::dates;
 use crate::event::{AccountList, Event};
 use crate::kinds::{self, Kind, Named};
+use crate::shown::{character, shown};
 use std::fmt;
 
 /// What is wrong with a text: the line, counted from 1, and what was expected there.
@@ -42,16 +44,14 @@ pub fn read(text: &str) -> Result<AccountList, Mistake> {
 }
 
 fn read_line(line: &str, list: &mut AccountList) -> Result<(), String> {
-    let told = line.split('#').next().unwrap_or("");
-    let words: Vec<&str> = told.split_whitespace().collect();
-    match words[..] {
+    match words(line)?[..] {
         [] => {}
         ["account"] => list.push(Vec::new()),
         ["account", ..] => {
             return Err("nothing may follow `account` but a remark after #".to_string());
         }
-        [day, ref rest @ ..] => {
-            let event = read_event(day, rest)?;
+        [first, ref rest @ ..] => {
+            let event = read_event(first, rest)?;
             let account = list.last_mut().ok_or(
                 "an event stands before the first account: a line `account` has to come first",
             )?;
@@ -61,26 +61,51 @@ fn read_line(line: &str, list: &mut AccountList) -> Result<(), String> {
     Ok(())
 }
 
-fn read_event(day: &str, rest: &[&str]) -> Result<Event, String> {
-    let day = number(day, "the day", u32::MAX.into())? as u32;
-    let Some((&word, fields)) = rest.split_first() else {
-        return Err(format!(
-            "after the day comes an event: {}",
-            kinds::all_words()
-        ));
+/// The event of one line.
+pub fn event(line: &str) -> Result<Event, String> {
+    match words(line)?[..] {
+        [first, ref rest @ ..] => read_event(first, rest),
+        [] => Err("expected a day and an event, found nothing".to_string()),
+    }
+}
+
+/// The words of a line before a remark. What can't be seen has no place in a text, not even in a remark: somebody will look
+/// at it in a terminal.
+fn words(line: &str) -> Result<Vec<&str>, String> {
+    if let Some(c) = line.chars().find(|&c| c.is_control() && c != '\t') {
+        let byte = character(c);
+        return Err(format!("the control byte {byte} has no place in a text"));
+    }
+    let told = line.split('#').next().unwrap_or("");
+    Ok(told.split_whitespace().collect())
+}
+
+/// A day by its number or its date.
+pub fn day(word: &str) -> Result<u32, String> {
+    if !dates::is_written_so(word) {
+        return Ok(number(word, "the day", u32::MAX.into())? as u32);
+    }
+    dates::day_of(word).ok_or_else(|| {
+        format!("`{word}` is no day: there is no such date, or it is before 2000-01-01")
+    })
+}
+
+fn read_event(first: &str, rest: &[&str]) -> Result<Event, String> {
+    let day = day(first)?;
+    let Some(word) = rest.first() else {
+        let all = kinds::all_words();
+        return Err(format!("after the day comes an event: {all}"));
     };
-    let Some(number) = kinds::of_word(word) else {
-        return Err(format!(
-            "`{word}` is no event; the events are {}",
-            kinds::all_words()
-        ));
+    let Some((kind, count)) = kinds::of_words(rest) else {
+        let (word, all) = (shown(word), kinds::all_words());
+        return Err(format!("`{word}` is no event; the events are {all}"));
     };
-    let mut event = Event {
-        kind: number,
-        day,
-        ..Event::default()
-    };
-    read_fields(&kinds::KINDS[usize::from(number) - 1], fields, &mut event)?;
+    let mut event = Event::of(kind, day, 0);
+    read_fields(
+        &kinds::KINDS[usize::from(kind) - 1],
+        &rest[count..],
+        &mut event,
+    )?;
     Ok(event)
 }
 
@@ -121,8 +146,9 @@ fn unexpected(kind: &Kind, field: &str) -> String {
         _ => "one number",
     };
     format!(
-        "`{}` takes {takes}, and `{field}` is left over; a field that it does not name is written option=N or amount=N",
-        kind.word
+        "`{}` takes {takes}, and `{}` is left over; a field that it does not name is written option=N or amount=N",
+        kind.word,
+        shown(field)
     )
 }
 
@@ -132,14 +158,16 @@ fn number(digits: &str, what: &str, largest: u64) -> Result<u64, String> {
     let plain = digits.replace(is_group, "");
     let is_number = !plain.is_empty() && plain.bytes().all(|b| b.is_ascii_digit());
     if !is_number || digits.starts_with(is_group) || digits.ends_with(is_group) {
+        let found = shown(digits);
         return Err(format!(
-            "expected {what} as a whole number, found `{digits}`"
+            "expected {what} as a whole number, found `{found}`"
         ));
     }
     match plain.parse() {
         Ok(n) if n <= largest => Ok(n),
         _ => Err(format!(
-            "expected {what}, found `{digits}`, and a book holds {largest} there at most"
+            "expected {what}, found `{}`, and a book holds {largest} there at most",
+            shown(digits)
         )),
     }
 }
@@ -224,6 +252,59 @@ mod tests {
         assert_eq!(read(text).unwrap(), expected);
         assert_eq!(read("").unwrap(), AccountList::new());
         assert_eq!(read("\u{feff}account").unwrap(), vec![vec![]]);
+    }
+
+    #[test]
+    fn a_day_may_be_a_date() {
+        let text = "account\n2000-04-10 bill 5\n2199-12-31 call\n2200-01-01 call";
+        let days: Vec<u32> = read(text).unwrap()[0].iter().map(|e| e.day).collect();
+        assert_eq!(days, [100, 73_048, 73_049]);
+        let told = mistake("account\n2001-02-29 call", 2);
+        assert!(told.starts_with("`2001-02-29` is no day: "), "{told}");
+        assert!(mistake("account\n2000-4-10 call", 2).contains("as a whole number"));
+    }
+
+    #[test]
+    fn an_event_may_have_another_of_its_names() {
+        let text = "account
+            1 cut\n1 disconnection\n2 notice\n2 final-notice\n2 final notice
+            3 arrangement 4\n3 payment arrangement 4\n5 returned 6\n5 returned payment 6 option=7";
+        let expected = vec![
+            Event::of(14, 1, 0),
+            Event::of(14, 1, 0),
+            Event::of(12, 2, 0),
+            Event::of(12, 2, 0),
+            Event::of(12, 2, 0),
+            Event::new(11, 4, 3, 0),
+            Event::new(11, 4, 3, 0),
+            Event::of(3, 5, 6),
+            Event::new(3, 7, 5, 6),
+        ];
+        assert_eq!(read(text).unwrap(), [expected]);
+    }
+
+    #[test]
+    fn one_event_is_read_alone() {
+        assert_eq!(event("131 payment 4000 # x"), Ok(Event::of(2, 131, 4_000)));
+        assert_eq!(event(" 2000-05-11  cut "), Ok(Event::of(14, 131, 0)));
+        for line in ["", " # 1 cut", "account", "cut", "1", "1 cut\n2 cut"] {
+            assert!(event(line).is_err(), "{line}");
+        }
+    }
+
+    #[test]
+    fn control_bytes_are_named_and_not_printed() {
+        let told = "the control byte \\u{1b} has no place in a text";
+        assert_eq!(mistake("account\n5 \u{1b}[2Jbil 7", 2), told);
+        assert_eq!(mistake("# \u{1b}[2J", 1), told);
+        assert!(mistake("account\n5 call\0", 2).contains("byte \\0 has"));
+        assert!(mistake("account\r5 call", 1).contains("byte \\r has"));
+        // What can't be seen and is no control byte is shown by its number as well.
+        assert!(mistake("account\n5 b\u{202e}l", 2).starts_with("`b\\u{202e}l` is no event"));
+        assert!(mistake("account\n\u{200b}5 call", 2).contains("found `\\u{200b}5`"));
+        assert!(mistake("account\n5 call \u{200b}", 2).contains("`\\u{200b}` is left over"));
+        let long = "account\n5 ".to_string() + &"x".repeat(1_000);
+        assert!(mistake(&long, 2).len() < 400);
     }
 
     #[test]

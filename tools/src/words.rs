@@ -1,9 +1,6 @@
-//! Words for the support desk: what a number means, what an event is, the date of a day, money.
+//! Words for the support desk: what a number means, what an event is, money.
 use crate::event::Event;
 use crate::kinds::{self, Named};
-
-/// The last day that an event may have, 31 December 2199.
-pub const LAST_DAY: u32 = 73_048;
 
 /// What number n means stands at n - 1.
 const MEANINGS: [&str; 22] = [
@@ -68,46 +65,14 @@ pub fn reason(number: u8, kind: u8) -> &'static str {
     }
 }
 
-/// A day with its date.
-pub fn day(day: u32) -> String {
-    match date(day) {
-        Some(date) => format!("day {day} ({date})"),
-        None => format!("day {day}"),
-    }
-}
-
-/// The date of a day, day 0 being 2000-01-01; none past the last day.
-pub fn date(day: u32) -> Option<String> {
-    if day > LAST_DAY {
-        return None;
-    }
-    let mut left = day;
-    let mut year = 2000;
-    while left >= days_of_year(year) {
-        left -= days_of_year(year);
-        year += 1;
-    }
-    let mut month = 1;
-    while left >= days_of_month(year, month) {
-        left -= days_of_month(year, month);
-        month += 1;
-    }
-    Some(format!("{year}-{month:02}-{:02}", left + 1))
-}
-
-fn is_leap(year: u32) -> bool {
-    year.is_multiple_of(4) && (!year.is_multiple_of(100) || year.is_multiple_of(400))
-}
-
-fn days_of_year(year: u32) -> u32 {
-    365 + u32::from(is_leap(year))
-}
-
-fn days_of_month(year: u32, month: u32) -> u32 {
-    match month {
-        2 => 28 + u32::from(is_leap(year)),
-        4 | 6 | 9 | 11 => 30,
-        _ => 31,
+/// What a kind adds to what is owed, beyond the sum that the event itself speaks of.
+pub fn added(kind: u8) -> &'static str {
+    match kind {
+        1 => "late charge",
+        3 => "returned check fee",
+        12 => "final notice fee",
+        15 => "reconnection fee",
+        _ => "fee",
     }
 }
 
@@ -177,26 +142,6 @@ fn odd_fields(event: &Event) -> String {
 #[cfg(test)]
 mod tests {
     use super::*;
-
-    #[test]
-    fn dates_are_those_of_the_calendar() {
-        let dates = [
-            (0, "2000-01-01"),
-            (59, "2000-02-29"),
-            (60, "2000-03-01"),
-            (365, "2000-12-31"),
-            (366, "2001-01-01"),
-            (36_525, "2100-01-01"),
-            (36_525 + 58, "2100-02-28"),
-            (36_525 + 59, "2100-03-01"),
-            (73_048, "2199-12-31"),
-        ];
-        for (day, expected) in dates {
-            assert_eq!(date(day).as_deref(), Some(expected));
-        }
-        assert_eq!(date(73_049), None);
-        assert_eq!(date(u32::MAX), None);
-    }
 
     #[test]
     fn money_has_two_places() {

@@ -1,128 +1,146 @@
-//! The tools as they are called: what goes in and out, the exit status, and words for what is wrong.
-use std::fs::File;
-use std::io::Write;
-use std::process::{Command, Output, Stdio};
+//! The command as a whole: its help, its version, wrong calls, and the short subcommands.
+mod run;
 
-const TEXT: &[u8] =
-    b"account # 0\n  100 bill 10000\n  130 bill 5000\n  131 payment 4000\n  131 cut\n";
+use run::{complaint, folder, pack, printed, run, run_words, TEXT};
+use std::fs;
+use tools::core;
 
-fn run(program: &str, arguments: &[&str], input: &[u8]) -> Output {
-    run_into(Stdio::piped(), program, arguments, input)
-}
-
-fn run_into(stdout: Stdio, program: &str, arguments: &[&str], input: &[u8]) -> Output {
-    let mut child = Command::new(program)
-        .args(arguments)
-        .stdin(Stdio::piped())
-        .stdout(stdout)
-        .stderr(Stdio::piped())
-        .spawn()
-        .unwrap();
-    // A program that stops before it reads everything closes the pipe.
-    let _ = child.stdin.take().unwrap().write_all(input);
-    child.wait_with_output().unwrap()
-}
-
-fn bookfile(arguments: &[&str], input: &[u8]) -> Output {
-    run(env!("CARGO_BIN_EXE_bookfile"), arguments, input)
-}
-
-fn why(arguments: &[&str], input: &[u8]) -> Output {
-    run(env!("CARGO_BIN_EXE_why"), arguments, input)
-}
-
-/// The words on standard error of a call that ends with the status, and prints nothing.
-fn complaint(output: &Output, status: i32) -> String {
-    assert_eq!(output.status.code(), Some(status));
-    assert_eq!(output.stdout, b"");
-    String::from_utf8(output.stderr.clone()).unwrap()
-}
+const COMMANDS: [&str; 4] = ["why", "pack", "unpack", "standing"];
 
 #[test]
-fn a_text_is_packed_and_unpacked() {
-    let packed = bookfile(&["pack"], TEXT);
-    assert!(packed.status.success());
-    assert_eq!(packed.stdout.len(), 16 + 4 * 16);
-    let unpacked = bookfile(&["unpack", "-"], &packed.stdout);
-    assert!(unpacked.status.success());
-    assert_eq!(unpacked.stdout, TEXT);
-}
-
-#[test]
-fn a_wrong_text_or_book_is_told_in_words() {
-    let told = complaint(&bookfile(&["pack"], b"account\n5 bil 7\n"), 1);
-    assert!(told.starts_with("bookfile: line 2: `bil` is no event"));
-    let told = complaint(&bookfile(&["unpack"], b"1234567"), 1);
-    assert!(told.starts_with("bookfile: book refused 20: "));
-    let told = complaint(&bookfile(&["unpack", "no-such-file"], b""), 1);
-    assert!(told.starts_with("bookfile: can't read no-such-file: "));
-    let many = "account\n".repeat(1_025);
-    let told = complaint(&bookfile(&["pack"], many.as_bytes()), 1);
-    assert!(told.starts_with("bookfile: book refused 20: more than 1,024 accounts"));
-}
-
-#[test]
-fn a_wrong_call_shows_the_usage() {
-    for arguments in [&[][..], &["pick"], &["pack", "a", "b", "c"]] {
-        assert!(complaint(&bookfile(arguments, b""), 2).starts_with("bookfile pack"));
+fn help_is_printed_where_it_is_asked_for() {
+    let help = printed(run("--help", b""));
+    assert!(help.contains("\nusage: hollupaq COMMAND ..\n"));
+    for name in COMMANDS {
+        assert!(help.contains(&format!("\n  {name} ")), "{name}");
     }
-    for arguments in [&["--help"][..], &["-", "one"], &["a", "0", "c"]] {
-        assert!(complaint(&why(arguments, b""), 2).starts_with("why [BOOK"));
+    for words in ["help", "-h", "help help", "help --help"] {
+        assert_eq!(printed(run(words, b"")), help, "{words}");
     }
 }
 
 #[test]
-fn a_refusal_is_explained() {
-    let packed = bookfile(&["pack"], TEXT).stdout;
-    for arguments in [&[][..], &["-"], &["-", "0"]] {
-        let told = why(arguments, &packed);
-        assert!(told.status.success());
-        let told = String::from_utf8(told.stdout).unwrap();
-        assert!(told.contains("payment of 40.00  110.75  accepted, receipt 1\n"));
-        assert!(told.contains("disconnection     110.75  refused 12: "));
-        assert!(told.ends_with(
-            "Standing: 110.75 owed, no deposit held, 2 open charges, service on, 1 event refused.\n"
-        ));
+fn each_command_has_a_help_of_its_own() {
+    for name in COMMANDS {
+        let help = printed(run(&format!("{name} --help"), b""));
+        assert!(help.starts_with(&format!("hollupaq {name} ")), "{help}");
+        assert!(help.contains(&format!("\nusage: hollupaq {name} ")));
+        assert!(help.lines().all(|line| line.len() <= 100), "{help}");
+        for words in [
+            "help NAME",
+            "NAME -h",
+            "NAME a b c d --help",
+            "NAME --x --help",
+        ] {
+            let words = words.replace("NAME", name);
+            assert_eq!(printed(run(&words, b"")), help, "{words}");
+        }
+    }
+    let help = printed(run("why --help", b""));
+    for option in ["--on DAY", "--try 'DAY EVENT ..'", "--csv"] {
+        assert!(help.contains(&format!("\n  {option} ")), "{option}");
+    }
+    // The help names the columns in words of its own.
+    assert!(help.contains(&format!("\n  {}\n", tools::csv::COLUMNS)));
+    assert!(help.contains("sums are in cents"));
+}
+
+#[test]
+fn the_version_is_the_library_s() {
+    assert_eq!(core::version(), 10_000);
+    for words in ["--version", "-V"] {
+        assert_eq!(printed(run(words, b"")), "hollupaq 1.0.0\n");
     }
 }
 
 #[test]
-fn what_can_not_be_shown_is_told_in_words() {
-    let packed = bookfile(&["pack"], TEXT).stdout;
-    let told = complaint(&why(&["-", "1"], &packed), 1);
+fn without_arguments_the_help_is_a_complaint() {
+    let help = printed(run("--help", b""));
+    assert_eq!(complaint(&run("", b""), 2), help);
+}
+
+/// The usage of each command, and of the command without one.
+const USAGES: [(&str, &str); 5] = [
+    (
+        "hollupaq",
+        "hollupaq COMMAND ..   (`hollupaq help` lists the commands)",
+    ),
+    (
+        "hollupaq why",
+        "hollupaq why BOOK [N] [--on DAY | --try 'DAY EVENT ..' | --csv]",
+    ),
+    ("hollupaq pack", "hollupaq pack TEXT [BOOK]"),
+    ("hollupaq unpack", "hollupaq unpack BOOK [TEXT]"),
+    ("hollupaq standing", "hollupaq standing BOOK"),
+];
+
+/// Wrong calls, and the reason that each is told.
+const WRONG: &str = "\
+wy => hollupaq: there is no command `wy`
+help wy => hollupaq: there is no command `wy`
+--verbose => hollupaq: `--verbose` is not known
+--version 2 => hollupaq: `2` is one word too many
+help why pack => hollupaq: `pack` is one word too many
+why => hollupaq why: BOOK is missing
+why - 0 1 => hollupaq why: `1` is one word too many
+why - --all => hollupaq why: `--all` is not known
+why - --on => hollupaq why: DAY is missing after --on
+why - --csv=1 => hollupaq why: nothing follows --csv
+why - --csv --csv => hollupaq why: --csv is given twice
+why - --csv --on 5 => hollupaq why: --csv and --on do not go together
+why - one => hollupaq why: N is the number of an account, 0 or more, and not `one`
+pack => hollupaq pack: TEXT is missing
+pack a b c => hollupaq pack: `c` is one word too many
+unpack => hollupaq unpack: BOOK is missing
+unpack -x => hollupaq unpack: `-x` is not known
+standing => hollupaq standing: BOOK is missing
+standing a 0 => hollupaq standing: `0` is one word too many";
+
+#[test]
+fn a_wrong_call_is_told_with_its_usage() {
+    for line in WRONG.lines() {
+        let (words, reason) = line.split_once(" => ").unwrap();
+        let name = reason.split(':').next().unwrap();
+        let (_, usage) = USAGES.iter().find(|(called, _)| *called == name).unwrap();
+        let told = complaint(&run(words, b""), 2);
+        assert_eq!(told, format!("{reason}\nusage: {usage}\n"), "{words}");
+    }
+}
+
+#[test]
+fn control_bytes_of_a_call_are_shown_by_their_numbers() {
+    let told = complaint(&run_words(&["\u{1b}[2J"], b""), 2);
+    assert!(told.starts_with("hollupaq: there is no command `\\u{1b}[2J`\n"));
+    let told = complaint(&run_words(&["why", "no\u{7}\nfile"], b""), 1);
+    assert!(told.starts_with("hollupaq why: can't read no\\u{7}\\nfile: "));
+    let told = complaint(&run_words(&["why", ""], b""), 1);
+    assert!(told.starts_with("hollupaq why: can't read '': "), "{told}");
+}
+
+#[test]
+fn the_standing_is_the_core_s_text() {
+    let book = pack(TEXT);
+    let text = printed(run("standing -", &book));
+    assert_eq!(text.as_bytes(), core::report(&book));
     assert_eq!(
-        told,
-        "why: there is no account 1: the book's accounts are 0 to 0\n"
+        text,
+        "account owed held open service refused\n0 11075 0 2 on 1\n"
     );
-    let told = complaint(&why(&["-", "0"], &[0; 8]), 1);
-    assert_eq!(told, "why: there is no account 0: the book has none\n");
-    let told = complaint(&why(&[], &packed[1..]), 1);
-    assert!(told.starts_with("why: book refused 20: "));
-    let told = complaint(&why(&["no-such-file"], b""), 1);
-    assert!(told.starts_with("why: can't read no-such-file: "));
+    let file = folder("standing").join("a.book");
+    fs::write(&file, &book).unwrap();
+    assert_eq!(
+        printed(run_words(&["standing", file.to_str().unwrap()], b"")),
+        text
+    );
 }
 
 #[test]
-#[cfg(target_os = "linux")]
-fn what_can_not_be_written_is_told_in_words() {
-    let full = || Stdio::from(File::options().write(true).open("/dev/full").unwrap());
-    let packed = bookfile(&["pack"], TEXT).stdout;
-    let into_full = |program, arguments: &[&str], input: &[u8]| {
-        complaint(&run_into(full(), program, arguments, input), 1)
-    };
-    let program = env!("CARGO_BIN_EXE_bookfile");
-    for (way, input) in [("pack", TEXT), ("unpack", &packed)] {
-        let told = into_full(program, &[way], input);
-        assert!(told.starts_with("bookfile: can't write -: "), "{told}");
-    }
-    let told = into_full(env!("CARGO_BIN_EXE_why"), &[], &packed);
-    assert!(told.starts_with("why: can't write -: "), "{told}");
-}
-
-#[test]
-fn an_account_without_events_is_shown_too() {
-    let told = why(&[], &bookfile(&["pack"], b"account\n").stdout);
-    let expected = "Account 0 of 1. Sums are in dollars.\n\n\
-        Standing: 0.00 owed, no deposit held, no open charges, service on, no events refused.\n";
-    assert_eq!(String::from_utf8(told.stdout).unwrap(), expected);
+fn a_refused_book_has_the_core_s_text_and_a_status() {
+    let refused = run("standing -", b"1234567");
+    assert_eq!(refused.status.code(), Some(1));
+    assert_eq!(refused.stdout, b"book refused 20\n");
+    assert_eq!(
+        String::from_utf8(refused.stderr).unwrap(),
+        "hollupaq standing: book refused 20: the book's length, its header or its table of accounts is wrong\n"
+    );
 }

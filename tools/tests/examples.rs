@@ -2,6 +2,7 @@
 use std::fs;
 use std::path::{Path, PathBuf};
 use tools::core::books;
+use tools::history::History;
 use tools::{core, text};
 
 fn folder() -> PathBuf {
@@ -81,5 +82,31 @@ fn the_remarks_tell_what_is_refused() {
             .map(|reply| reply.number != 0)
             .collect();
         assert_eq!(remarks, answers, "{name}");
+    }
+}
+
+/// What `hollupaq why` tells is taken of an account that is posted to: it is the core's history of the book, and its standing.
+#[test]
+fn an_account_that_is_posted_to_answers_as_the_book_does() {
+    for name in names() {
+        let book = read(&name, "book");
+        let standing = String::from_utf8(read(&name, "standing")).unwrap();
+        for (index, events) in books::read(&book).unwrap().iter().enumerate() {
+            let (history, steps) = History::of(events);
+            let told: Vec<(u8, i64)> = steps.iter().map(|s| (s.number(), s.owed)).collect();
+            let replies = core::history(&book, index).unwrap();
+            let replies: Vec<(u8, i64)> = replies.iter().map(|r| (r.number, r.owed)).collect();
+            assert_eq!(told, replies, "{name} {index}");
+            let account = history.account();
+            let line = format!(
+                "{index} {} {} {} {} {}",
+                account.owed(),
+                account.held(),
+                account.open_count(),
+                account.service(),
+                history.refused
+            );
+            assert_eq!(standing.lines().nth(index + 1), Some(&line[..]), "{name}");
+        }
     }
 }

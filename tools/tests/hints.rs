@@ -5,12 +5,12 @@ mod common;
 use common::last_answer;
 use std::ops::RangeInclusive;
 use tools::core::Answer;
+use tools::dates::day;
 use tools::event::Event;
 use tools::hints::{
     arrears_days, call_days, conduct_from, full_days, hint, notice_days, Before, Days,
     DEPOSIT_NOTICES, RETURNABLE,
 };
-use tools::words::day;
 
 fn bill(day: u32, amount: u64) -> Event {
     Event::of(1, day, amount)
@@ -61,7 +61,9 @@ fn lawful(day: u32) -> [Event; 3] {
 /// The account before an event, as its hint looks at it.
 fn before(events: &[Event]) -> Before {
     let mut before = Before::default();
-    events.iter().for_each(|&event| before.accept(event));
+    for &event in events {
+        assert!(matches!(before.post(event), Answer::Accepted(_)));
+    }
     before
 }
 

@@ -3,9 +3,10 @@ mod common;
 
 use common::last_answer;
 use tools::core::Answer;
+use tools::dates::{date, LAST_DAY};
 use tools::event::Event;
 use tools::kinds::{Named, KINDS};
-use tools::words::{date, meaning, LAST_DAY};
+use tools::words::meaning;
 
 const ACCEPTED: Answer = Answer::Accepted(0);
 

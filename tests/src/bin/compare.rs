@@ -1,8 +1,9 @@
 //! Runs the core, by its static library and as the program `standing`, against the peer.
 //!
 //! `compare [PROGRAM] [--seed N] [--books N] [--files N] [--part]`: the program is target/bin/standing if none is named, and
-//! gets so many files. The same seed gives the same books. Fewer than some thousand books do not reach everything that is
-//! asked of them: with `--part`, what they did not reach is told and does not fail.
+//! gets so many files. The same seed gives the same books. Most books are of seed 1, so that every run reaches the same, and a
+//! sixth is of the day's own seed, so that each day tries others; `--seed N` runs that seed alone. Fewer than some thousand
+//! books do not reach everything that is asked of them: with `--part`, what they did not reach is told and does not fail.
 use std::env;
 use std::path::{Path, PathBuf};
 use std::process::ExitCode;
@@ -15,11 +16,13 @@ use tests::lists::Lists;
 use tests::peer;
 use tests::program::{self, Feed};
 use tests::random::Random;
+use tests::seeds::{self, Share};
 use tests::tally::{Group, Tally};
 
 struct Wanted {
     program: PathBuf,
-    seed: u64,
+    /// None where no seed is named.
+    seed: Option<u64>,
     books: u64,
     files: u64,
     part: bool,
@@ -38,15 +41,17 @@ fn main() -> ExitCode {
         true => Tally::of_part(),
         false => Tally::default(),
     };
-    let mut library = by_library(&wanted);
-    let particular = particular_books(&wanted, &mut library.lists);
+    let shares = seeds::shares(wanted.seed, seeds::of_today(), wanted.books, wanted.files);
+    println!("{}", seeds::told(&shares));
+    let mut library = by_library(&shares);
+    let particular = particular_books(&shares, &mut library.lists);
     library.coverage.print();
     library.tell(&mut tally);
     particular.tell(
         &mut tally,
         "short books and books of many accounts by the library",
     );
-    by_program(&wanted, &mut tally);
+    by_program(&wanted.program, &shares, &mut tally);
     if tally.finish() {
         ExitCode::SUCCESS
     } else {
@@ -57,7 +62,7 @@ fn main() -> ExitCode {
 fn arguments() -> Result<Wanted, String> {
     let mut wanted = Wanted {
         program: PathBuf::from("target/bin/standing"),
-        seed: 1,
+        seed: None,
         books: 24_000,
         files: 600,
         part: false,
@@ -69,7 +74,7 @@ fn arguments() -> Result<Wanted, String> {
             number.ok_or(format!("{word} wants a number"))
         };
         match word.as_str() {
-            "--seed" => wanted.seed = number()?,
+            "--seed" => wanted.seed = Some(number()?),
             "--books" => wanted.books = number()?,
             "--files" => wanted.files = number()?,
             "--part" => wanted.part = true,
@@ -84,6 +89,8 @@ fn arguments() -> Result<Wanted, String> {
 #[derive(Default)]
 struct ByLibrary {
     coverage: Coverage,
+    /// What the books of the first seed had to reach, and what of it they did not.
+    demands: Vec<(String, Vec<String>)>,
     good: Group,
     damaged: Group,
     histories: Group,
@@ -95,38 +102,49 @@ struct ByLibrary {
     lists: Lists,
 }
 
-fn by_library(wanted: &Wanted) -> ByLibrary {
+fn by_library(shares: &[Share]) -> ByLibrary {
     let mut all = ByLibrary::default();
-    for index in 0..wanted.books {
-        let book = books::book(wanted.seed, index);
-        let expected = peer::report(&book.bytes);
-        all.coverage.book(&expected);
-        for history in &book.histories {
-            all.coverage.history(&history.events, &history.posted);
+    for (turn, share) in shares.iter().enumerate() {
+        for index in 0..share.books {
+            all.book(share.seed, index);
         }
-        let group = if book.damaged {
-            &mut all.damaged
-        } else {
-            &mut all.good
-        };
-        group.try_one(|| library::compare_report(&book.bytes, &expected));
-        // A text that differs was shown, and would differ in any memory.
-        if library::agrees(&book.bytes, &expected) {
-            all.lend(index, &book.bytes, &expected);
+        // What has to be reached is asked of the first seed alone: whether a run passes must not hang on the day.
+        if turn == 0 {
+            all.demands = all.coverage.demands();
+            all.demands.extend(all.kept.demands());
         }
-        if book.is_good() {
-            all.replies(&book);
-        }
-        if index % 16 == 0 {
-            all.beginnings(&book);
-        }
-        all.kept.book(wanted.seed, index, &book);
-        all.lists.book(index as usize, &book.bytes);
     }
     all
 }
 
 impl ByLibrary {
+    /// Book number `index` of a seed, in every way.
+    fn book(&mut self, seed: u64, index: u64) {
+        let book = books::book(seed, index);
+        let expected = peer::report(&book.bytes);
+        self.coverage.book(&expected);
+        for history in &book.histories {
+            self.coverage.history(&history.events, &history.posted);
+        }
+        let group = match book.damaged {
+            true => &mut self.damaged,
+            false => &mut self.good,
+        };
+        group.try_one(|| library::compare_report(&book.bytes, &expected));
+        // A text that differs was shown, and would differ in any memory.
+        if library::agrees(&book.bytes, &expected) {
+            self.lend(index, &book.bytes, &expected);
+        }
+        if book.is_good() {
+            self.replies(&book);
+        }
+        if index.is_multiple_of(16) {
+            self.beginnings(&book);
+        }
+        self.kept.book(seed, index, &book);
+        self.lists.book(index as usize, &book.bytes);
+    }
+
     /// One kind of memory for each book in turn.
     fn lend(&mut self, index: u64, book: &[u8], expected: &[u8]) {
         let some = 1 + index as usize / 6 % 200;
@@ -157,8 +175,8 @@ impl ByLibrary {
     }
 
     fn tell(&self, tally: &mut Tally) {
-        for (demand, missing) in self.coverage.demands() {
-            tally.reached(&demand, &missing);
+        for (demand, missing) in &self.demands {
+            tally.reached(demand, missing);
         }
         self.good.tell(tally, "books by the library");
         self.damaged.tell(tally, "damaged books by the library");
@@ -180,28 +198,29 @@ impl ByLibrary {
     }
 }
 
-fn particular_books(wanted: &Wanted, lists: &mut Lists) -> Group {
+fn particular_books(shares: &[Share], lists: &mut Lists) -> Group {
     let mut group = Group::default();
-    let mut random = Random::new(wanted.seed);
-    let mut list = damage::particular(&mut random);
-    for accounts in [1, 41, 999] {
-        list.push(books::of_length(65_536, accounts, &mut random));
-    }
-    for (turn, book) in list.iter().enumerate() {
-        group.try_one(|| library::compare_report(book, &peer::report(book)));
-        lists.book(turn, book);
+    for share in shares {
+        let mut random = Random::new(share.seed);
+        let mut list = damage::particular(&mut random);
+        for accounts in [1, 41, 999] {
+            list.push(books::of_length(65_536, accounts, &mut random));
+        }
+        for (turn, book) in list.iter().enumerate() {
+            group.try_one(|| library::compare_report(book, &peer::report(book)));
+            lists.book(turn, book);
+        }
     }
     group
 }
 
 /// Files for the program, fewer than for the library since each is a process.
-fn by_program(wanted: &Wanted, tally: &mut Tally) {
-    let program = &wanted.program;
+fn by_program(program: &Path, shares: &[Share], tally: &mut Tally) {
     let (mut whole, mut damaged, mut pieces) =
         (Group::default(), Group::default(), Group::default());
-    for index in 0..wanted.files {
+    for (seed, index) in shares.iter().flat_map(Share::each_file) {
         // Not the books that the library had.
-        let book = books::book(!wanted.seed, index);
+        let book = books::book(!seed, index);
         let size = [1, 5, 8, 16, 100, 4_096][index as usize % 6];
         let (group, feed) = match index % 3 {
             0 => (&mut pieces, Feed::Pieces(size)),
@@ -213,7 +232,7 @@ fn by_program(wanted: &Wanted, tally: &mut Tally) {
     whole.tell(tally, "books by the program");
     damaged.tell(tally, "damaged books by the program");
     pieces.tell(tally, "books by the program, read in small pieces");
-    for (name, file) in long_files(wanted.seed) {
+    for (name, file) in long_files(shares[0].seed) {
         tally.check(
             &format!("{name} by the program"),
             &both_ways(program, &file),

@@ -42,7 +42,7 @@ impl Writer<'_> {
     }
 
     fn odd_amount(&mut self) -> u64 {
-        let any = self.random.next();
+        let any = self.random.draw();
         let some = any >> self.random.below(64);
         let edges = [0, 1, 30, 31, 180, 181, 100_000_000, 100_000_001];
         let edge = self.random.pick(&edges);

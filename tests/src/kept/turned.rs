@@ -17,7 +17,7 @@ const POSTED: usize = 12;
 /// A few words, or once in a while every word, with the bits to turn in each.
 fn turns(account: &Account, random: &mut Random) -> Vec<(usize, u64)> {
     if random.once_in(10) {
-        return (0..WORDS).map(|word| (word, random.next())).collect();
+        return (0..WORDS).map(|word| (word, random.draw())).collect();
     }
     let few = 0..random.between(1, 3);
     few.map(|_| (some_word(account, random), some_bit(random)))
