@@ -1,5 +1,6 @@
 // Prints the standing of the accounts of a book, which comes from standard input: a line for each account, or one line
 // that says by which number the book is refused.
+use libc::STDERR_FILENO;
 use libc::STDIN_FILENO;
 use libc::STDOUT_FILENO;
 use report::LONGEST_INPUT;
@@ -17,11 +18,16 @@ fn print(book: &[u8], out: &mut [u8; ROOM]) -> usize
     p.bytes()
 }
 
+// Said on standard error where standard output takes no more. The kit has no exit status to say it with.
+const NOT_WRITTEN: [u8; 45] = *b"standing: can't write all to standard output\n";
+
 // Hands a text to standard output: nothing but the whole text for what was read.
 fn write(book: &[u8], text: &[u8])
     requires { ⌜ now text ≡ inputText (now book) ⌝ }
 {
-    io::write_all(STDOUT_FILENO, text);
+    if !io::write_all(STDOUT_FILENO, text) {
+        io::write_all(STDERR_FILENO, &NOT_WRITTEN);
+    }
 }
 
 // One byte more is read than a book may have, so that a longer file is seen.
