@@ -63,12 +63,14 @@ module _ (i : ℕ) (all : List ℕ) (e : Event) (r : Answer) (all2 : List ℕ) w
       (λ q h. rw (v .words-are, q) (put-length (i * accountSize) accountSize (wordsAfter (accountAt i all) e) all (ys-length i all h e) h))
       (λ q h. rw (v .words-are, q))
 
-  pub this-account : i * accountSize + accountSize ≤ length all → LeavesAt i all e r all2 → (r ≡ answerTo (accountAt i all) e) × (accountAt i all2 ≡ wordsAfter (accountAt i all) e)
+  pub this-account : i * accountSize + accountSize ≤ length all → LeavesAt i all e r all2
+      → (r ≡ answerTo (accountAt i all) e) × (accountAt i all2 ≡ wordsAfter (accountAt i all) e)
   this-account h v =
       let q = le-leb (i * accountSize + accountSize) (length all) h in
       (rw q at (v .answer-is), rw (v .words-are, q) (put-same (i * accountSize) accountSize (wordsAfter (accountAt i all) e) all (ys-length i all h e) h))
 
-pub other-account : (i j : ℕ) (all : List ℕ) (e : Event) (r : Answer) (all2 : List ℕ) → (i ≡ j → ⊥) → LeavesAt i all e r all2 → accountAt j all2 ≡ accountAt j all
+pub other-account : (i j : ℕ) (all : List ℕ) (e : Event) (r : Answer) (all2 : List ℕ) → (i ≡ j → ⊥) → LeavesAt i all e r all2
+    → accountAt j all2 ≡ accountAt j all
 other-account i j all e r all2 n v =
     on-le (i * accountSize + accountSize) (length all)
     (λ q h.
@@ -83,7 +85,8 @@ other-account i j all e r all2 n v =
 -- ---- the exits
 -- the width of a part that starts at a variable is known by an equation
 pub leaves-at : (i w : ℕ) (all ys : List ℕ) (e : Event) (r : Answer) → w ≡ accountSize → i * accountSize + accountSize ≤ length all
-    → r ≡ answerTo (take w (drop (i * accountSize) all)) e → ys ≡ wordsAfter (take w (drop (i * accountSize) all)) e → LeavesAt i all e r (put (i * accountSize) w ys all)
+    → r ≡ answerTo (take w (drop (i * accountSize) all)) e → ys ≡ wordsAfter (take w (drop (i * accountSize) all)) e
+    → LeavesAt i all e r (put (i * accountSize) w ys all)
 leaves-at i w all ys e r z h a b =
     let q = le-leb (i * accountSize + accountSize) (length all) h in
     rw z (record { answer-is = rw q (rw z at a); words-are = rw q (ap (λ x. put (i * accountSize) accountSize x all) (rw z at b)) })

@@ -84,18 +84,21 @@ after-row4 v e (inl z) = simp (z, and-true)
 after-row4 v e (inr z) = simp (z, and-true)
 
 pub item-rows : (s : State) (e : Event) (n : ℕ) → onlyItem e ≡ true → n ≡ min (chargeOf (view s e) e) largest
-    → cond (leb 2 (s .collection .service)) 4 (cond (leb mostOpen (s .ledger .made - s .ledger .closed)) 18 (cond (ltb limit (min (s .ledger .charged + n) largest)) 19 0)) ≡ refusalBy (view s e) e
+    → cond (leb 2 (s .collection .service)) 4
+    (cond (leb mostOpen (s .ledger .made - s .ledger .closed)) 18 (cond (ltb limit (min (s .ledger .charged + n) largest)) 19 0)) ≡ refusalBy (view s e) e
 unfolding view
 item-rows s e n o w =
     rw (closed-word (s .collection .service), passing-sum (s .ledger .charged) n)
     (ap (λ r. cond (isClosed (serviceBy (s .collection .service))) 4 r) (of-bill (view s e) e n w (either e o)) ∙ after-row4 (view s e) e (either e o))
 
 -- ---- the amount of the item
-pub bill-amount : (s : State) (e : Event) → e .kind ≡ bill → min (e .amount + lateCharge (s .ledger .charged - creditsBy (s .ledger))) largest ≡ min (chargeOf (view s e) e) largest
+pub bill-amount : (s : State) (e : Event) → e .kind ≡ bill → min (e .amount + lateCharge (s .ledger .charged - creditsBy (s .ledger))) largest
+    ≡ min (chargeOf (view s e) e) largest
 unfolding view
 bill-amount s e z = charge-bill (view s e) e z
 
-pub fee-amount : (s : State) (e : Event) → onlyItem e ≡ true → (e .kind ≡ bill → ⊥) → feeOf (e .option) ≤ largest → feeOf (e .option) ≡ min (chargeOf (view s e) e) largest
+pub fee-amount : (s : State) (e : Event) → onlyItem e ≡ true → (e .kind ≡ bill → ⊥) → feeOf (e .option) ≤ largest
+    → feeOf (e .option) ≡ min (chargeOf (view s e) e) largest
 fee-amount s e o n l =
     let z : e .kind ≡ fee = eqb-true (e .kind) fee (rw (ne-eqb (e .kind) bill n) at o) in
     let y : feeNumber e ≡ e .option = rw z in
@@ -133,7 +136,8 @@ file-still s e l =
     (rw (low e certificate l (omega arith), low e approval l (omega arith)))
 
 -- the money, then the day
-pub way-is : (m a c : List ℕ) (e : Event) (v : View) → e .kind < depositAsked → Became a (moneyAfter (stateOn m) e v) → Became c (serviceAfter (stateOn a) e) → Became c (applied (stateOn m) e v)
+pub way-is : (m a c : List ℕ) (e : Event) (v : View) → e .kind < depositAsked → Became a (moneyAfter (stateOn m) e v) → Became c (serviceAfter (stateOn a) e)
+    → Became c (applied (stateOn m) e v)
 way-is m a c e v l p q = steps-are m a a c e v p (record { words-are = p .words-are; state-is = sym (file-still (stateOn a) e l) }) q
 
 -- ---- the day and the notice
@@ -214,7 +218,8 @@ pub payment-by : (m : List ℕ) (l : length m ≡ accountSize) (e : Event) → e
     → Became (back sizes 5 zs (back sizes 6 ys (back sizes 7 ws m))) (moneyAfter (stateOn m) e (view (stateOn m) e))
 payment-by m l e z ws a ys b zs c p q r =
     let v = view (stateOn m) e in
-    money-by m l e ws a ys b zs v c (p ∙ simp (z, add-zero)) q (r ∙ payment-arranged (arrangementOn (part sizes 5 (back sizes 6 ys (back sizes 7 ws m)))) e (v .arrears) (v .payment) z)
+    money-by m l e ws a ys b zs v c (p ∙ simp (z, add-zero)) q
+    (r ∙ payment-arranged (arrangementOn (part sizes 5 (back sizes 6 ys (back sizes 7 ws m)))) e (v .arrears) (v .payment) z)
 
 -- what a payment asks of the ledger
 pub payment-ledger : (m : List ℕ) (e : Event) → Free m e → e .kind ≡ payment → LedgerRoom (stateOn m .ledger) e false 0 (e .amount)
@@ -228,7 +233,8 @@ payment-ledger m e f z =
     (subst (λ n. LedgerRoom l e (charges e) n (e .amount)) none
     (subst (λ n. LedgerRoom l e (charges e) (chargeOf v e) n) paid (free-ledger m e f)))
 
-pub payment-receipt : (m c : List ℕ) (e : Event) (v : View) (n : ℕ) → e .kind ≡ payment → Became c (applied (stateOn m) e v) → n ≡ stateOn c .receipts .count → n ≡ receiptAt (stateOn m) e
+pub payment-receipt : (m c : List ℕ) (e : Event) (v : View) (n : ℕ) → e .kind ≡ payment → Became c (applied (stateOn m) e v) → n ≡ stateOn c .receipts .count
+    → n ≡ receiptAt (stateOn m) e
 payment-receipt m c e v n z b q = let y : cond (is payment e) n 0 ≡ n = rw z in sym y ∙ receipt-by m c e v n b q
 
 -- of a bill or a fee
@@ -243,7 +249,8 @@ item-credits : (v : View) (e : Event) → (e .kind ≡ bill) ⊎ (e .kind ≡ fe
 item-credits v e (inl z) = rw z
 item-credits v e (inr z) = rw z
 
-arranged-other : (a : Arrangement) (e : Event) (owing back : ℕ) → is arrangement e ≡ false → is payment e ≡ false → is returnedPayment e ≡ false → a ≡ arrangementAfter a e owing back
+arranged-other : (a : Arrangement) (e : Event) (owing back : ℕ) → is arrangement e ≡ false → is payment e ≡ false → is returnedPayment e ≡ false
+    → a ≡ arrangementAfter a e owing back
 arranged-other a e owing back p q r =
     rw (p, q, r) (λ i. record { day = a .day; parts = a .parts; debt = a .debt; paid = more-by-none (a .paid) i; returned = more-by-none (a .returned) i })
 
@@ -273,7 +280,8 @@ module _ (m : List ℕ) (e : Event) (f : Free m e) (o : onlyItem e ≡ true) (n 
   item-same : ledgerAfter (stateOn m .ledger) e true n 0 ≡ ledgerAfter (stateOn m .ledger) e (charges e) (chargeOf looked e) (creditOf looked e)
   item-same = λ i. ledgerAfter (stateOn m .ledger) e (sym (item-adds e (either e o)) i) (charge-fits m e f n w i) (sym (item-credits looked e (either e o)) i)
 
-  item-by : (ws : List ℕ) → length ws ≡ ledgerSize → ledgerOn ws ≡ ledgerAfter (stateOn m .ledger) e true n 0 → Became (back sizes 7 ws m) (moneyAfter (stateOn m) e looked)
+  item-by : (ws : List ℕ) → length ws ≡ ledgerSize → ledgerOn ws ≡ ledgerAfter (stateOn m .ledger) e true n 0
+      → Became (back sizes 7 ws m) (moneyAfter (stateOn m) e looked)
   item-by ws a p =
       let t = then sizes 7 ws (omega arith) a (here sizes m (f .fit .words-are)) in
       record {

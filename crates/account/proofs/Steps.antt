@@ -136,7 +136,8 @@ module _ (m : List ℕ) (l : length m ≡ accountSize) (e : Event) where
 
 -- ---- the three steps together
 -- the money does not touch the deposit
-pub deposit-still : (m a : List ℕ) (e : Event) (v : View) → Became a (moneyAfter (stateOn m) e v) → DepositFit (stateOn m .deposit) → DepositFit (stateOn a .deposit)
+pub deposit-still : (m a : List ℕ) (e : Event) (v : View) → Became a (moneyAfter (stateOn m) e v) → DepositFit (stateOn m .deposit)
+    → DepositFit (stateOn a .deposit)
 deposit-still m a e v b f = subst (λ s. DepositFit (s .deposit)) (sym (b .state-is)) f
 
 pub steps-are : (m a b c : List ℕ) (e : Event) (v : View)
@@ -146,7 +147,8 @@ steps-are m a b c e v p q r =
     record { words-are = r .words-are; state-is = r .state-is ∙ ap (λ s. serviceAfter s e) (q .state-is ∙ ap (λ s. fileAfter s e) (p .state-is)) }
 
 -- the receipt of a payment is how many there are then
-pub receipt-by : (m c : List ℕ) (e : Event) (v : View) (n : ℕ) → Became c (applied (stateOn m) e v) → n ≡ stateOn c .receipts .count → cond (is payment e) n 0 ≡ receiptAt (stateOn m) e
+pub receipt-by : (m c : List ℕ) (e : Event) (v : View) (n : ℕ) → Became c (applied (stateOn m) e v) → n ≡ stateOn c .receipts .count
+    → cond (is payment e) n 0 ≡ receiptAt (stateOn m) e
 unfolding applied
 receipt-by m c e v n b q =
     let z : n ≡ cond (is payment e) (stateOn m .receipts .count + 1) (stateOn m .receipts .count) = q ∙ ap (λ s. s .receipts .count) (b .state-is) in

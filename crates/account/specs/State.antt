@@ -13,13 +13,33 @@ use Rattle.rules.specs.History.{History, lastPosted}
 use Rattle.rules.specs.Money.{charges}
 use Rattle.rules.specs.Table.{chargeOf, creditOf}
 use Rattle.collection.specs.declared.Collection.{Collection}
-use Rattle.collection.specs.Collection.{collectionSize, collectionOn, collectionWords, serviceBy, liveBy, inDaysBy, calledBy, collectionAfter, collectionOf, collectionOk}
+use Rattle.collection.specs.Collection.{
+  collectionSize,
+  collectionOn,
+  collectionWords,
+  serviceBy,
+  liveBy,
+  inDaysBy,
+  calledBy,
+  collectionAfter,
+  collectionOf,
+  collectionOk,
+}
 use Rattle.deposit.specs.declared.Deposit.{Deposit}
 use Rattle.deposit.specs.Deposit.{depositSize, depositOn, depositWords, earnedBy, depositAfter, depositOf, depositOk, DepositFit}
 use Rattle.medical.specs.declared.Medical.{Medical}
 use Rattle.medical.specs.Medical.{medicalSize, medicalOn, medicalWords, certifiedBy, approvedBy, medicalAfter, medicalOf, medicalOk}
 use Rattle.arrangement.specs.declared.Arrangement.{Arrangement}
-use Rattle.arrangement.specs.Arrangement.{arrangementSize, arrangementOn, arrangementWords, inForceBy, arrangementAfter, arrangementOf, arrangementOk, ArrangementFit}
+use Rattle.arrangement.specs.Arrangement.{
+  arrangementSize,
+  arrangementOn,
+  arrangementWords,
+  inForceBy,
+  arrangementAfter,
+  arrangementOf,
+  arrangementOk,
+  ArrangementFit,
+}
 use Rattle.receipts.specs.Receipts.{Receipts, receiptsSize, receiptsOn, receiptsWords, paymentBy, receiptsAfter, receiptsOf, receiptsOk, ReceiptsFit}
 use Rattle.ledger.specs.Ledger.{Ledger, ledgerSize, ledgerOn, ledgerWords, creditsBy, arrearsBy, ledgerAfter, ledgerOf, ledgerOk, LedgerFit}
 

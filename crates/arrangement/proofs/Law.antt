@@ -56,7 +56,8 @@ arrangement-law h w =
     let a = agreed h w in
     record {
       in-force-is = λ t. rw (arrangement-is h);
-      passes = rw (arrangement-is h) (simp (le-leb _ _ (a .parts-le), le-leb _ _ (a .day-le), le-leb _ _ (debt-limit h w), le-leb _ _ (paid-limit h w), le-leb _ _ (returned-limit h w)));
+      passes = rw (arrangement-is h)
+          (simp (le-leb _ _ (a .parts-le), le-leb _ _ (a .day-le), le-leb _ _ (debt-limit h w), le-leb _ _ (paid-limit h w), le-leb _ _ (returned-limit h w)));
     }
 
 -- what the test tells

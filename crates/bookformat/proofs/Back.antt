@@ -11,8 +11,40 @@ use lib.Seq.{take-append-seam}
 use Rattle.rules.specs.declared.Event.{Event}
 use Rattle.basics.proofs.Cases.{and-left, and-right, and-both}
 use Rattle.little.specs.Little.{Bytes}
-use Rattle.bookformat.specs.Book.{AccountList, mostAccounts, longest, base, size, accounts, records, kindFine, recordFine, recordsFine, bookRefusal, eventsAt, countsAt, split, flat, encode, decode}
-use Rattle.bookformat.specs.Lent.{after, lent, lentAt, lentList, countsTotal, kindsFine, writeRefusal, kindsOf, optionsOf, daysOf, amountsOf, Left, WroteBook}
+use Rattle.bookformat.specs.Book.{
+  AccountList,
+  mostAccounts,
+  longest,
+  base,
+  size,
+  accounts,
+  records,
+  kindFine,
+  recordFine,
+  recordsFine,
+  bookRefusal,
+  eventsAt,
+  countsAt,
+  split,
+  flat,
+  encode,
+  decode,
+}
+use Rattle.bookformat.specs.Lent.{
+  after,
+  lent,
+  lentAt,
+  lentList,
+  countsTotal,
+  kindsFine,
+  writeRefusal,
+  kindsOf,
+  optionsOf,
+  daysOf,
+  amountsOf,
+  Left,
+  WroteBook,
+}
 use Rattle.bookformat.specs.Facts.{Header}
 use Rattle.bookformat.specs.Trips.{BookBack}
 use Rattle.bookformat.proofs.Told.{book-facts, read-facts}
@@ -28,7 +60,8 @@ lent-shift (suc n) i k o d m ks os ds ms =
 
 lent-of : (es : List Event) → lent (length es) 0 (kindsOf es) (optionsOf es) (daysOf es) (amountsOf es) ≡ es
 lent-of [] = refl
-lent-of (e ∷ es) = ap (λ l. e ∷ l) (lent-shift (length es) 0 (e .kind) (e .option) (e .day) (e .amount) (kindsOf es) (optionsOf es) (daysOf es) (amountsOf es) ∙ lent-of es)
+lent-of (e ∷ es) =
+    ap (λ l. e ∷ l) (lent-shift (length es) 0 (e .kind) (e .option) (e .day) (e .amount) (kindsOf es) (optionsOf es) (daysOf es) (amountsOf es) ∙ lent-of es)
 
 -- an account list in memory is that list
 lent-list : (l : AccountList) → lentList (map length l) (kindsOf (flat l)) (optionsOf (flat l)) (daysOf (flat l)) (amountsOf (flat l)) ≡ l
@@ -53,10 +86,12 @@ kinds-back (suc n) p b e =
     let ks = kindsOf (eventsAt n (p + 16) b) in
     let f = and-left (recordFine p b) (recordsFine n (p + 16) b) e in
     let g = and-right (recordFine p b) (recordsFine n (p + 16) b) e in
-    and-both (kindFine k) (kindsFine n 1 (k ∷ ks)) (and-left (kindFine k) (eqb (getD b (p + 2) 0) 0 && eqb (getD b (p + 3) 0) 0) f) (kinds-shift n 0 k ks ∙ kinds-back n (p + 16) b g)
+    and-both (kindFine k) (kindsFine n 1 (k ∷ ks)) (and-left (kindFine k) (eqb (getD b (p + 2) 0) 0 && eqb (getD b (p + 3) 0) 0) f)
+    (kinds-shift n 0 k ks ∙ kinds-back n (p + 16) b g)
 
 written-again : (b : List ℕ) (room : ℕ) → bookRefusal b ≡ 0 → length b ≤ room
-    → writeRefusal (map length (decode b)) (kindsOf (flat (decode b))) (optionsOf (flat (decode b))) (daysOf (flat (decode b))) (amountsOf (flat (decode b))) room ≡ 0
+    → writeRefusal (map length (decode b)) (kindsOf (flat (decode b))) (optionsOf (flat (decode b))) (daysOf (flat (decode b)))
+    (amountsOf (flat (decode b))) room ≡ 0
 written-again b room z h =
     let f : Header b = book-facts b z .0 in
     let a = accounts b in
@@ -96,11 +131,17 @@ book-back b t cs ks os ds ms cs2 ks2 os2 ds2 ms2 old new n given w h =
     let na : length (map length l) ≡ accounts b = ap length (decode-parts b z .0) ∙ length-counts (accounts b) 8 b in
     let nr : length es ≡ records b = ap length (decode-parts b z .1) ∙ length-events (records b) (base (accounts b)) b in
     let ec : take (accounts b) cs2 ≡ map length l = ap (λ x. take (accounts b) x) (m .counts) ∙ front (accounts b) (map length l) cs na in
-    let ek : take (records b) ks2 ≡ kindsOf es = ap (λ x. take (records b) x) (m .kinds) ∙ front (records b) (kindsOf es) ks (length-map es (λ e. e .kind) ∙ nr) in
-    let eo : take (records b) os2 ≡ optionsOf es = ap (λ x. take (records b) x) (m .options) ∙ front (records b) (optionsOf es) os (length-map es (λ e. e .option) ∙ nr) in
+    let ek : take (records b) ks2 ≡ kindsOf es = ap (λ x. take (records b) x) (m .kinds)
+    ∙ front (records b) (kindsOf es) ks (length-map es (λ e. e .kind) ∙ nr) in
+    let eo : take (records b) os2 ≡ optionsOf es = ap (λ x. take (records b) x) (m .options)
+    ∙ front (records b) (optionsOf es) os (length-map es (λ e. e .option) ∙ nr) in
     let ed : take (records b) ds2 ≡ daysOf es = ap (λ x. take (records b) x) (m .days) ∙ front (records b) (daysOf es) ds (length-map es (λ e. e .day) ∙ nr) in
-    let em : take (records b) ms2 ≡ amountsOf es = ap (λ x. take (records b) x) (m .amounts) ∙ front (records b) (amountsOf es) ms (length-map es (λ e. e .amount) ∙ nr) in
+    let em : take (records b) ms2 ≡ amountsOf es = ap (λ x. take (records b) x) (m .amounts)
+    ∙ front (records b) (amountsOf es) ms (length-map es (λ e. e .amount) ∙ nr) in
     let w2 : WroteBook (map length l) (kindsOf es) (optionsOf es) (daysOf es) (amountsOf es) old new n = rw (ec, ek, eo, ed, em) at w in
     let g = written-again b (length old) z h in
-    let s = ap encode (lent-list l) ∙ encode-decode b t z in
-    (w2 .answer ∙ g, w2 .bytes ∙ ap (λ k. after k (encode (lentList (map length l) (kindsOf es) (optionsOf es) (daysOf es) (amountsOf es))) old) g ∙ ap (λ x. after 0 x old) s)
+    let s = ap encode (lent-list l) ∙ encode-decode b t z in (
+      w2 .answer ∙ g,
+      w2 .bytes ∙ ap (λ k. after k (encode (lentList (map length l) (kindsOf es) (optionsOf es) (daysOf es) (amountsOf es))) old) g
+          ∙ ap (λ x. after 0 x old) s,
+    )

@@ -19,7 +19,8 @@ use Rattle.bookformat.proofs.Found.{flat-length}
 use Rattle.bookformat.proofs.Back.{front}
 
 -- how long the book of a list is that was accepted
-pub length-written : (cs ks os ds ms : List ℕ) (room : ℕ) → writeRefusal cs ks os ds ms room ≡ 0 → length (encode (lentList cs ks os ds ms)) ≡ size (length cs) (length ks)
+pub length-written : (cs ks os ds ms : List ℕ) (room : ℕ) → writeRefusal cs ks os ds ms room ≡ 0
+    → length (encode (lentList cs ks os ds ms)) ≡ size (length cs) (length ks)
 length-written cs ks os ds ms room z =
     let l = lentList cs ks os ds ms in
     let es = lent (length ks) 0 ks os ds ms in
@@ -37,7 +38,8 @@ module _ (ks os ds ms : List ℕ) (f : Event → ℕ) (l : List ℕ) (h : (j : �
   whole n e = fields n 0 (omega arith) ∙ ap (λ k. take k l) (sym e) ∙ take-length l
 
 -- a list that was accepted, and its book
-module _ (cs ks os ds ms : List ℕ) (room : ℕ) (uo : Under 256 os) (ud : Under (top 4) ds) (um : Under (top 8) ms) (z : writeRefusal cs ks os ds ms room ≡ 0) where
+module _ (cs ks os ds ms : List ℕ) (room : ℕ) (uo : Under 256 os) (ud : Under (top 4) ds) (um : Under (top 8) ms)
+    (z : writeRefusal cs ks os ds ms room ≡ 0) where
   sums : countsTotal cs ≡ length (lent (length ks) 0 ks os ds ms)
   sums = write-facts cs ks os ds ms room z .sizes .sum ∙ sym (length-lent (length ks) 0 ks os ds ms)
 
@@ -90,7 +92,9 @@ list-back cs ks os ds ms uo ud um old new cs2 ks2 os2 ds2 ms2 cs3 ks3 os3 ds3 ms
       g2 .answer ∙ r,
       m .counts ∙ ap (λ x. after 0 x cs2) (lengths-split cs es t),
       m .kinds ∙ ap (λ x. after 0 (kindsOf x) ks2) fl ∙ ap (λ x. after 0 x ks2) (whole ks os ds ms (λ v. v .kind) ks (λ j. refl) (length ks) refl),
-      m .options ∙ ap (λ x. after 0 (optionsOf x) os2) fl ∙ ap (λ x. after 0 x os2) (whole ks os ds ms (λ v. v .option) os (λ j. refl) (length ks) (s .options)),
+      m .options ∙ ap (λ x. after 0 (optionsOf x) os2) fl
+          ∙ ap (λ x. after 0 x os2) (whole ks os ds ms (λ v. v .option) os (λ j. refl) (length ks) (s .options)),
       m .days ∙ ap (λ x. after 0 (daysOf x) ds2) fl ∙ ap (λ x. after 0 x ds2) (whole ks os ds ms (λ v. v .day) ds (λ j. refl) (length ks) (s .days)),
-      m .amounts ∙ ap (λ x. after 0 (amountsOf x) ms2) fl ∙ ap (λ x. after 0 x ms2) (whole ks os ds ms (λ v. v .amount) ms (λ j. refl) (length ks) (s .amounts)),
+      m .amounts ∙ ap (λ x. after 0 (amountsOf x) ms2) fl
+          ∙ ap (λ x. after 0 x ms2) (whole ks os ds ms (λ v. v .amount) ms (λ j. refl) (length ks) (s .amounts)),
     )

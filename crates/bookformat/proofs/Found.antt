@@ -30,13 +30,16 @@ pub record-at : (b : List ℕ) (k : ℕ) → bookRefusal b ≡ 0 → k < records
 record-at b k z h = rw (decode-parts b z .1) (sym (events-getD (records b) (base (accounts b)) k b h))
 
 -- where the offset of account i points, and its count
-offset-at : (start r n p sum i : ℕ) (b : List ℕ) → tableFine start r n p sum b ≡ true → i < n → num 4 (p + 8 * i) b ≡ start + 16 * (sum + countsTotal (take i (countsAt n p b)))
+offset-at : (start r n p sum i : ℕ) (b : List ℕ) → tableFine start r n p sum b ≡ true → i < n
+    → num 4 (p + 8 * i) b ≡ start + 16 * (sum + countsTotal (take i (countsAt n p b)))
 offset-at start r zero p sum i b e h = absurd (not-suc-le-zero h)
 offset-at start r (suc n) p sum zero b e h =
-    ap (λ q. num 4 q b) (omega arith) ∙ eqb-true _ _ (and-left (eqb (num 4 p b) (start + 16 * sum)) (tableFine start r n (p + 8) (sum + num 4 (p + 4) b) b) e) ∙ omega arith
+    ap (λ q. num 4 q b) (omega arith)
+    ∙ eqb-true _ _ (and-left (eqb (num 4 p b) (start + 16 * sum)) (tableFine start r n (p + 8) (sum + num 4 (p + 4) b) b) e) ∙ omega arith
 offset-at start r (suc n) p sum (suc i) b e h =
     ap (λ q. num 4 q b) (omega arith)
-    ∙ offset-at start r n (p + 8) (sum + num 4 (p + 4) b) i b (and-right (eqb (num 4 p b) (start + 16 * sum)) (tableFine start r n (p + 8) (sum + num 4 (p + 4) b) b) e) (le-of-suc-le-suc h)
+    ∙ offset-at start r n (p + 8) (sum + num 4 (p + 4) b) i b
+    (and-right (eqb (num 4 p b) (start + 16 * sum)) (tableFine start r n (p + 8) (sum + num 4 (p + 4) b) b) e) (le-of-suc-le-suc h)
     ∙ omega arith
 
 count-at : (n p i : ℕ) (b : List ℕ) → i < n → getD (countsAt n p b) i 0 ≡ num 4 (p + 8 * i + 4) b
@@ -54,7 +57,8 @@ total-take [] i h = absurd (not-suc-le-zero h)
 total-take (c ∷ cs) zero h = omega arith
 total-take (c ∷ cs) (suc i) h = omega (arith, total-take cs i (le-of-suc-le-suc h))
 
-pub offset-of : (b : List ℕ) (i : ℕ) → bookRefusal b ≡ 0 → i < accounts b → num 4 (8 + 8 * i) b ≡ base (accounts b) + 16 * countsTotal (take i (countsAt (accounts b) 8 b))
+pub offset-of : (b : List ℕ) (i : ℕ) → bookRefusal b ≡ 0 → i < accounts b
+    → num 4 (8 + 8 * i) b ≡ base (accounts b) + 16 * countsTotal (take i (countsAt (accounts b) 8 b))
 offset-of b i z h = omega (arith, offset-at (base (accounts b)) (records b) (accounts b) 8 0 i b (book-facts b z .0 .entries) h)
 
 pub account-at : (b : List ℕ) (i : ℕ) (s : Span) → bookRefusal b ≡ 0 → i < accounts b

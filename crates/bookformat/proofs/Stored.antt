@@ -34,7 +34,8 @@ wrote-all cs ks os ds ms old s =
     (sets-front (bookOf cs es) old (omega (arith, length-book cs es, n)))
 
 -- the stores of one field of every event
-field-front : (f : Event → ℕ) (es : List Event) (r : ℕ) (old new : List ℕ) → length es ≡ r → r ≤ length old → new ≡ sets old 0 (map f es) → new ≡ after 0 (map f es) old
+field-front : (f : Event → ℕ) (es : List Event) (r : ℕ) (old new : List ℕ) → length es ≡ r → r ≤ length old → new ≡ sets old 0 (map f es)
+    → new ≡ after 0 (map f es) old
 field-front f es r old new n h e = e ∙ sets-front (map f es) old (omega (arith, length-map es f))
 
 -- the stores of all counts and all fields from index 0 leave the list, and the old tails
@@ -63,7 +64,8 @@ kept-all n l cs ks os ds ms h =
 
 -- ---- what is accepted for writing comes back
 
-storable-lent : (n i : ℕ) (ks os ds ms : List ℕ) → kindsFine n i ks ≡ true → Under 256 os → Under (top 4) ds → Under (top 8) ms → Storable (lent n i ks os ds ms)
+storable-lent : (n i : ℕ) (ks os ds ms : List ℕ) → kindsFine n i ks ≡ true → Under 256 os → Under (top 4) ds → Under (top 8) ms
+    → Storable (lent n i ks os ds ms)
 storable-lent zero i ks os ds ms e o d m = tt
 storable-lent (suc n) i ks os ds ms e o d m =
     let k = getD ks i 0 in

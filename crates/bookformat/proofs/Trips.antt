@@ -13,7 +13,30 @@ use Rattle.rules.specs.declared.Event.{Event}
 use Rattle.basics.proofs.Cases.{and-left, and-right}
 use Rattle.little.specs.Little.{le, num, part, top, Bytes}
 use Rattle.little.proofs.Numbers.{le-num, num-at, length-le}
-use Rattle.bookformat.specs.Book.{AccountList, mostAccounts, longest, accounts, records, base, tableFine, kindFine, recordFine, recordsFine, bookRefusal, eventAt, eventsAt, countsAt, split, flat, decode, recordBytes, body, accountTable, bookOf, encode}
+use Rattle.bookformat.specs.Book.{
+  AccountList,
+  mostAccounts,
+  longest,
+  accounts,
+  records,
+  base,
+  tableFine,
+  kindFine,
+  recordFine,
+  recordsFine,
+  bookRefusal,
+  eventAt,
+  eventsAt,
+  countsAt,
+  split,
+  flat,
+  decode,
+  recordBytes,
+  body,
+  accountTable,
+  bookOf,
+  encode,
+}
 use Rattle.bookformat.specs.Lent.{countsTotal}
 use Rattle.bookformat.specs.Facts.{Header, Storable, Writable}
 use Rattle.bookformat.proofs.Tests.{and-on}
@@ -32,12 +55,14 @@ getD-in x y p i e = rw (← e) (getD-append-add x y i 0)
 
 -- ---- an accepted book, decoded and encoded
 
-table-back : (start r n p sum : ℕ) (b : List ℕ) → Bytes b → p + 8 * n ≤ length b → tableFine start r n p sum b ≡ true → accountTable (start + 16 * sum) (countsAt n p b) ≡ part (8 * n) p b
+table-back : (start r n p sum : ℕ) (b : List ℕ) → Bytes b → p + 8 * n ≤ length b → tableFine start r n p sum b ≡ true
+    → accountTable (start + 16 * sum) (countsAt n p b) ≡ part (8 * n) p b
 table-back start r zero p sum b t h e = refl
 table-back start r (suc n) p sum b t h e =
     let c = num 4 (p + 4) b in
     let q : num 4 p b ≡ start + 16 * sum = eqb-true _ _ (and-left (eqb (num 4 p b) (start + 16 * sum)) (tableFine start r n (p + 8) (sum + c) b) e) in
-    let i = table-back start r n (p + 8) (sum + c) b t (omega arith) (and-right (eqb (num 4 p b) (start + 16 * sum)) (tableFine start r n (p + 8) (sum + c) b) e) in
+    let i = table-back start r n (p + 8) (sum + c) b t (omega arith)
+    (and-right (eqb (num 4 p b) (start + 16 * sum)) (tableFine start r n (p + 8) (sum + c) b) e) in
     let k : 8 * suc n ≡ 4 + (4 + 8 * n) = omega arith in
     let s : start + 16 * sum + 16 * c ≡ start + 16 * (sum + c) = omega arith in
     let m : p + 4 + 4 ≡ p + 8 = omega arith in
@@ -101,7 +126,8 @@ lengths-split (c ∷ cs) es e =
     rw (k, lengths-split cs (drop c es) (simp length-drop (omega arith)))
 
 -- the counts and the events of an accepted book's list
-pub decode-parts : (b : List ℕ) → bookRefusal b ≡ 0 → (map length (decode b) ≡ countsAt (accounts b) 8 b) × (flat (decode b) ≡ eventsAt (records b) (base (accounts b)) b)
+pub decode-parts : (b : List ℕ) → bookRefusal b ≡ 0
+    → (map length (decode b) ≡ countsAt (accounts b) 8 b) × (flat (decode b) ≡ eventsAt (records b) (base (accounts b)) b)
 decode-parts b z =
     let a = accounts b in
     let r = records b in
@@ -126,7 +152,8 @@ encode-decode b t z =
     let bb = body-back r (base a) b t (omega (arith, h)) e in
     let w : length b ≡ 4 + (4 + (8 * a + 16 * r)) = omega (arith, h) in
     rw (decode-parts b z .0, decode-parts b z .1, lc, ln, tb, bb, le-num 4 0 b (omega (arith, h)) t, le-num 4 4 b (omega (arith, h)) t)
-    (sym (part-add 4 (4 + (8 * a + 16 * r)) 0 b ∙ ap (λ x. part 4 0 b ++ x) (part-add 4 (8 * a + 16 * r) 4 b ∙ ap (λ x. part 4 4 b ++ x) (part-add (8 * a) (16 * r) 8 b)))
+    (sym (part-add 4 (4 + (8 * a + 16 * r)) 0 b
+    ∙ ap (λ x. part 4 0 b ++ x) (part-add 4 (8 * a + 16 * r) 4 b ∙ ap (λ x. part 4 4 b ++ x) (part-add (8 * a) (16 * r) 8 b)))
     ∙ ap (λ k. part k 0 b) (sym w) ∙ take-length b)
 
 -- ---- an account list, encoded and decoded
@@ -134,8 +161,10 @@ encode-decode b t z =
 counts-at : (cs : List ℕ) (off p : ℕ) (x z : List ℕ) → length x ≡ p → countsTotal cs < top 4 → countsAt (length cs) p (x ++ (accountTable off cs ++ z)) ≡ cs
 counts-at [] off p x z e h = refl
 counts-at (c ∷ cs) off p x z e h =
-    let n1 = simp append-assoc at (num-at 4 c (p + 4) (x ++ le 4 off) (accountTable (off + 16 * c) cs ++ z) (simp (length-append, length-le) (omega arith)) (omega arith)) in
-    let n2 = simp append-assoc at (counts-at cs (off + 16 * c) (p + 8) (x ++ (le 4 off ++ le 4 c)) z (simp (length-append, length-le) (omega arith)) (omega arith)) in
+    let n1 = simp append-assoc at
+    (num-at 4 c (p + 4) (x ++ le 4 off) (accountTable (off + 16 * c) cs ++ z) (simp (length-append, length-le) (omega arith)) (omega arith)) in
+    let n2 = simp append-assoc at
+    (counts-at cs (off + 16 * c) (p + 8) (x ++ (le 4 off ++ le 4 c)) z (simp (length-append, length-le) (omega arith)) (omega arith)) in
     simp append-assoc (ap₂ (λ a b. a ∷ b) n1 n2)
 
 table-at : (cs : List ℕ) (start r p sum : ℕ) (x z : List ℕ) → length x ≡ p → sum + countsTotal cs ≡ r → start + 16 * r < top 4
@@ -145,8 +174,10 @@ table-at (c ∷ cs) start r p sum x z e f h =
     let o = start + 16 * sum in
     let s : start + 16 * (sum + c) ≡ o + 16 * c = omega arith in
     let n0 = num-at 4 o p x (le 4 c ++ (accountTable (o + 16 * c) cs ++ z)) e (omega arith) in
-    let n1 = simp append-assoc at (num-at 4 c (p + 4) (x ++ le 4 o) (accountTable (o + 16 * c) cs ++ z) (simp (length-append, length-le) (omega arith)) (omega arith)) in
-    let n2 = simp append-assoc at (rw s at (table-at cs start r (p + 8) (sum + c) (x ++ (le 4 o ++ le 4 c)) z (simp (length-append, length-le) (omega arith)) (omega arith) h)) in
+    let n1 = simp append-assoc at
+    (num-at 4 c (p + 4) (x ++ le 4 o) (accountTable (o + 16 * c) cs ++ z) (simp (length-append, length-le) (omega arith)) (omega arith)) in
+    let n2 = simp append-assoc at
+    (rw s at (table-at cs start r (p + 8) (sum + c) (x ++ (le 4 o ++ le 4 c)) z (simp (length-append, length-le) (omega arith)) (omega arith) h)) in
     simp append-assoc (rw n1 (and-on _ _ (eq-eqb _ _ n0) ∙ n2))
 
 events-at : (es : List Event) (p : ℕ) (x z : List ℕ) → length x ≡ p → Storable es → eventsAt (length es) p (x ++ (body es ++ z)) ≡ es
@@ -159,7 +190,8 @@ events-at (v ∷ es) p x z e h =
     let o = getD-in x (four ++ rest) p 1 e in
     let d = simp append-assoc at (num-at 4 (v .day) (p + 4) (x ++ four) (le 8 (v .amount) ++ y) (simp length-append (omega arith)) (h .0 .3)) in
     let m = simp append-assoc at (num-at 8 (v .amount) (p + 8) (x ++ (four ++ le 4 (v .day))) y (simp (length-append, length-le) (omega arith)) (h .0 .4)) in
-    let i = simp append-assoc at (events-at es (p + 16) (x ++ (four ++ (le 4 (v .day) ++ le 8 (v .amount)))) z (simp (length-append, length-le) (omega arith)) (h .1)) in
+    let i = simp append-assoc at
+    (events-at es (p + 16) (x ++ (four ++ (le 4 (v .day) ++ le 8 (v .amount)))) z (simp (length-append, length-le) (omega arith)) (h .1)) in
     simp append-assoc (λ j. record { kind = k j; option = o j; day = d j; amount = m j } ∷ i j)
 
 records-at : (es : List Event) (p : ℕ) (x z : List ℕ) → length x ≡ p → Storable es → recordsFine (length es) p (x ++ (body es ++ z)) ≡ true
@@ -170,7 +202,8 @@ records-at (v ∷ es) p x z e h =
     let k = getD-at x (v .kind) (v .option ∷ 0 ∷ 0 ∷ rest) 0 p e in
     let a = getD-in x (four ++ rest) p 2 e in
     let b = getD-in x (four ++ rest) p 3 e in
-    let i = simp append-assoc at (records-at es (p + 16) (x ++ (four ++ (le 4 (v .day) ++ le 8 (v .amount)))) z (simp (length-append, length-le) (omega arith)) (h .1)) in
+    let i = simp append-assoc at
+    (records-at es (p + 16) (x ++ (four ++ (le 4 (v .day) ++ le 8 (v .amount)))) z (simp (length-append, length-le) (omega arith)) (h .1)) in
     simp append-assoc (simp (k, a, b, le-leb 1 (v .kind) (h .0 .0), le-leb (v .kind) 16 (h .0 .1)) i)
 
 pub split-flat : (l : AccountList) → split (map length l) (flat l) ≡ l
@@ -193,7 +226,8 @@ pub length-book : (cs : List ℕ) (es : List Event) → length (bookOf cs es) �
 length-book cs es = simp (length-append, length-le, length-table, length-body) (omega arith)
 
 -- the parts of a book that was made from counts and events
-module _ (cs : List ℕ) (es : List Event) (few : length cs ≤ mostAccounts) (sum : countsTotal cs ≡ length es) (small : base (length cs) + 16 * length es ≤ longest) (storable : Storable es) where
+module _ (cs : List ℕ) (es : List Event) (few : length cs ≤ mostAccounts) (sum : countsTotal cs ≡ length es)
+    (small : base (length cs) + 16 * length es ≤ longest) (storable : Storable es) where
   book-accounts : accounts (bookOf cs es) ≡ length cs
   book-accounts = num-at 4 (length cs) 0 [] (le 4 (length es) ++ (accountTable (base (length cs)) cs ++ body es)) refl (omega arith)
 
@@ -201,7 +235,8 @@ module _ (cs : List ℕ) (es : List Event) (few : length cs ≤ mostAccounts) (s
   book-records = num-at 4 (length es) 4 (le 4 (length cs)) (accountTable (base (length cs)) cs ++ body es) (length-le 4 (length cs)) (omega arith)
 
   book-counts : countsAt (length cs) 8 (bookOf cs es) ≡ cs
-  book-counts = simp append-assoc at (counts-at cs (base (length cs)) 8 (le 4 (length cs) ++ le 4 (length es)) (body es) (simp (length-append, length-le)) (omega arith))
+  book-counts =
+      simp append-assoc at (counts-at cs (base (length cs)) 8 (le 4 (length cs) ++ le 4 (length es)) (body es) (simp (length-append, length-le)) (omega arith))
 
   book-events : eventsAt (length es) (base (length cs)) (bookOf cs es) ≡ es
   book-events = simp (append-assoc, append-nil) at (events-at es (base (length cs)) (le 4 (length cs) ++ (le 4 (length es) ++ accountTable (base
@@ -210,7 +245,9 @@ module _ (cs : List ℕ) (es : List Event) (few : length cs ≤ mostAccounts) (s
   book-table : tableFine (base (length cs)) (length es) (length cs) 8 0 (bookOf cs es) ≡ true
   book-table =
       let z : base (length cs) + 16 * 0 ≡ base (length cs) = omega arith in
-      simp append-assoc at (rw z at (table-at cs (base (length cs)) (length es) 8 0 (le 4 (length cs) ++ le 4 (length es)) (body es) (simp (length-append, length-le)) (omega arith) (omega arith)))
+      simp append-assoc at
+      (rw z at (table-at cs (base (length cs)) (length es) 8 0 (le 4 (length cs) ++ le 4 (length es)) (body es) (simp (length-append, length-le))
+      (omega arith) (omega arith)))
 
   book-storable : recordsFine (length es) (base (length cs)) (bookOf cs es) ≡ true
   book-storable = simp (append-assoc, append-nil) at (records-at es (base (length cs)) (le 4 (length cs) ++ (le 4 (length es) ++ accountTable (base

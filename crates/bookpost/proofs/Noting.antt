@@ -90,7 +90,8 @@ module _ (b : List ℕ) (i : ℕ) (ns₀ : List ℕ) (os₀ : List ℤ) where
   note-begin s m z h e n o =
       let c = span-length b i s z h in
       record {
-        numbers = ap (λ x. sets ns₀ 0 (map numberOf (answers x (rest b (s .count) (s .first))))) e ∙ ap (λ l. sets ns₀ 0 (map numberOf (answers freshWords l))) (h .events);
+        numbers = ap (λ x. sets ns₀ 0 (map numberOf (answers x (rest b (s .count) (s .first))))) e
+            ∙ ap (λ l. sets ns₀ 0 (map numberOf (answers freshWords l))) (h .events);
         owing = ap (λ x. sets os₀ 0 (owedRun x (rest b (s .count) (s .first)))) e ∙ ap (λ l. sets os₀ 0 (owedRun freshWords l)) (h .events);
         within = h .within;
         small = h .small;
@@ -146,13 +147,15 @@ module _ (b : List ℕ) (i : ℕ) (ns : List ℕ) (os : List ℤ) (z : historyRe
   history-room =
       let n = length (bookAccount b i) in
       let r = or-none (bookRefusal b) (cond (leb n (length ns) && leb n (length os)) 0 22) z in
-      let t : (leb n (length ns) && leb n (length os)) ≡ true = on (leb n (length ns) && leb n (length os)) (λ q. q) (λ q. absurd (omega (arith, rw q at (r .1)))) in (
+      let t : (leb n (length ns) && leb n (length os)) ≡ true =
+      on (leb n (length ns) && leb n (length os)) (λ q. q) (λ q. absurd (omega (arith, rw q at (r .1)))) in (
         r .0,
         leb-true n (length ns) (and-left (leb n (length ns)) (leb n (length os)) t),
         leb-true n (length os) (and-right (leb n (length ns)) (leb n (length os)) t),
       )
 
-  pub history-told : (ns2 : List ℕ) (os2 : List ℤ) → ns2 ≡ sets ns 0 (numbersOf (bookAccount b i)) → os2 ≡ sets os 0 (owedFrom [] (bookAccount b i)) → ToldHistory b i ns ns2 os os2 0
+  pub history-told : (ns2 : List ℕ) (os2 : List ℤ) → ns2 ≡ sets ns 0 (numbersOf (bookAccount b i)) → os2 ≡ sets os 0 (owedFrom [] (bookAccount b i))
+      → ToldHistory b i ns ns2 os os2 0
   history-told ns2 os2 p q =
       let es = bookAccount b i in
       record {

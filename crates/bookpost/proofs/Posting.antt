@@ -38,13 +38,15 @@ module _ (b : List ℕ) (i k left : ℕ) (m : List ℕ) (r : ℕ) (t : Turning b
   pub fit : Fit m
   fit = walked-fit (t .past) m r (t .walked)
 
-  pub turn : (e : Event) (a : Answer) (n : List ℕ) (x : ℕ) → bookRefusal b ≡ 0 → 0 < left → e ≡ recordOf b k → length n ≡ length m → Judges m e a n → x ≡ cond (accepts a) 0 1
+  pub turn : (e : Event) (a : Answer) (n : List ℕ) (x : ℕ) → bookRefusal b ≡ 0 → 0 < left → e ≡ recordOf b k → length n ≡ length m → Judges m e a n
+      → x ≡ cond (accepts a) 0 1
       → Turning b i (k + 1) (left - 1) n (r + x)
   turn e a n x z h g l j y =
       let after = rest b (left - 1) (k + 1) in
       record {
         past = t .past ++ (e ∷ []);
-        parted = append-assoc (t .past) (e ∷ []) after ∙ (ap (λ x. t .past ++ (x ∷ after)) g ∙ (sym (ap (λ x. t .past ++ x) (next-left b left k z h (t .within))) ∙ t .parted));
+        parted = append-assoc (t .past) (e ∷ []) after
+            ∙ (ap (λ x. t .past ++ (x ∷ after)) g ∙ (sym (ap (λ x. t .past ++ x) (next-left b left k z h (t .within))) ∙ t .parted));
         walked = one-more (t .past) m r (t .walked) e a n x (walked-leaves (t .past) m r (t .walked) e a n l j) y;
         within = omega (arith, t .within);
         few = omega (arith, t .few, y, one-at-most (accepts a));

@@ -96,7 +96,8 @@ pub answers-same : (h : History) (es : List Event) → Lawful h → answers (wor
 answers-same h [] w = refl
 answers-same h (e ∷ es) w =
     ap (λ m. answerTo (wordsOf (accountOf h)) e ∷ answers m es) (words-after h e w)
-    ∙ (ap (λ r. r ∷ answers (wordsOf (accountOf (offered h e))) es) (answer-to h e w) ∙ ap (λ l. answer h e ∷ l) (answers-same (offered h e) es (offered-lawful h e w)))
+    ∙ (ap (λ r. r ∷ answers (wordsOf (accountOf (offered h e))) es) (answer-to h e w)
+    ∙ ap (λ l. answer h e ∷ l) (answers-same (offered h e) es (offered-lawful h e w)))
 
 -- a fresh account is that of no events
 pub fresh-is : freshWords ≡ wordsOf (accountOf [])

@@ -39,7 +39,8 @@ refused-count h (e ∷ es) =
     (λ q. rw q (omega (arith, rw q at ih)))
 
 -- of the account that lawful events make
-claim-of : (es : List Event) (h : History) → Lawful h → refusedIn (answersAfter [] es) + length h ≡ length es → ClaimOf (wordsOf (accountOf h)) (answersAfter [] es) es h
+claim-of : (es : List Event) (h : History) → Lawful h → refusedIn (answersAfter [] es) + length h ≡ length es
+    → ClaimOf (wordsOf (accountOf h)) (answersAfter [] es) es h
 claim-of es h w n =
     let k = laws h w in
     record {

@@ -19,7 +19,8 @@ run-more : (m : List ℕ) (xs : List Event) (e : Event) → run m (xs ++ (e ∷ 
 run-more m [] e = refl
 run-more m (x ∷ xs) e = run-more (wordsAfter m x) xs e
 
-refused-more : (m : List ℕ) (xs : List Event) (e : Event) → refusedIn (answers m (xs ++ (e ∷ []))) ≡ refusedIn (answers m xs) + cond (accepts (answerTo (run m xs) e)) 0 1
+refused-more : (m : List ℕ) (xs : List Event) (e : Event)
+    → refusedIn (answers m (xs ++ (e ∷ []))) ≡ refusedIn (answers m xs) + cond (accepts (answerTo (run m xs) e)) 0 1
 refused-more m [] e = omega arith
 refused-more m (x ∷ xs) e = omega (arith, refused-more (wordsAfter m x) xs e)
 
@@ -54,7 +55,8 @@ module _ (past : List Event) (m : List ℕ) (r : ℕ) (w : Walked past m r) wher
 
   pub one-more : (e : Event) (a : Answer) (k : List ℕ) (x : ℕ) → Leaves m e a k → x ≡ cond (accepts a) 0 1 → Walked (past ++ (e ∷ [])) k (r + x)
   one-more e a k x v z =
-      let c : x ≡ cond (accepts (answerTo (run freshWords past) e)) 0 1 = z ∙ ap {B = ℕ} (λ b. cond (accepts b) 0 1) (v .answer-is ∙ ap (λ n. answerTo n e) (w .at)) in
+      let c : x ≡ cond (accepts (answerTo (run freshWords past) e)) 0 1 = z
+      ∙ ap {B = ℕ} (λ b. cond (accepts b) 0 1) (v .answer-is ∙ ap (λ n. answerTo n e) (w .at)) in
       record {
         at = v .words-are ∙ (ap (λ n. wordsAfter n e) (w .at) ∙ sym (run-more freshWords past e));
         count = omega (arith, w .count, c, refused-more freshWords past e);

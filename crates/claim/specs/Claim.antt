@@ -72,7 +72,8 @@ pub record ClaimOf (m : List ℕ) (said : List Answer) (es : List Event) (h : Hi
       ≡ subℕ (total bill h + lateCharges h + feesCharged h + returnedPayments h + total payout h) (total payment h + total depositPaid h)
   -- what would be answered to any event now is what the accepted events alone give
   pub would : (e : Event) → answerTo m e ≡ answer h e
-  -- on each day in range and not before the last accepted event, a well-formed disconnection is accepted exactly when the accepted events show that it is lawful
+  -- on each day in range and not before the last accepted event, a well-formed disconnection is accepted exactly when the
+  -- accepted events show that it is lawful
   pub cuts : (t : ℕ) → t ≤ finalDay → lastPosted h ≤ t → accepts (answerTo m (cutOn t)) ≡ mayCut h t
   -- the account passes the test
   pub passing : passes m ≡ true

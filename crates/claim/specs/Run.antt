@@ -15,7 +15,8 @@ abbrev pub answers : List ℕ → List Event → List Answer
 answers m [] = []
 answers m (e ∷ es) = answerTo m e ∷ answers (wordsAfter m e) es
 
--- a list of postings, each as its contract says it: the account was a, said are the answers to es, and z is what the last one left. Between two postings the account is its keeper's
+-- a list of postings, each as its contract says it: the account was a, said are the answers to es, and z is what the last one
+-- left. Between two postings the account is its keeper's
 abbrev pub LeftBy : {A S : Type 0} → (A → Event → S → A → Type 0) → A → List Event → List S → A → Type 0
 LeftBy leaves a [] [] z = z ≡ a
 LeftBy leaves a [] (s ∷ said) z = ⊥

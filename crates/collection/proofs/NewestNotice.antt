@@ -86,6 +86,7 @@ surviving-is f (e ∷ h) t s a l =
     let ih = surviving-is f h t (s .1) (a .1) (omega arith) in
     let now = surviving-is (λ n. n) h (e .day) (s .1) (a .1) (s .0) in
     rw mark
-    (step (is finalNotice e) (not (is disconnection e)) (leb enough (arrears (e ∷ h) (e .day))) was (eqb (n .live) 1) (λ n. within (f n) (n + 20) t) (e .day) (n .day)
+    (step (is finalNotice e) (not (is disconnection e)) (leb enough (arrears (e ∷ h) (e .day))) was (eqb (n .live) 1) (λ n. within (f n) (n + 20) t)
+    (e .day) (n .day)
     (λ q. gone f n was (e .day) t (sym now ∙ a .0 (eqb-true (e .kind) finalNotice q)) ih (omega (arith, day-past h (s .1))) l)
     ih)

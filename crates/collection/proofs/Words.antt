@@ -37,7 +37,8 @@ collection-other c e n l =
 
 module _ (w : List ℕ) (n : ℕ) where
   -- the mark of the notice is the one word that is stored
-  pub lapsed-to : (x : ℕ) → length w ≡ collectionSize → x ≡ cond (eqb (getD w 2 0) 1 && leb enough n) 1 0 → collectionOn (set w 2 x) ≡ lapsedBy (collectionOn w) n
+  pub lapsed-to : (x : ℕ) → length w ≡ collectionSize → x ≡ cond (eqb (getD w 2 0) 1 && leb enough n) 1 0
+      → collectionOn (set w 2 x) ≡ lapsedBy (collectionOn w) n
   lapsed-to x l q = rw q (ap (λ v. collectionOn (set v 2 (cond (eqb (getD w 2 0) 1 && leb enough n) 1 0))) (whole collectionSize w l))
 
   pub lapsed-none : getD w 2 0 ≡ 0 → collectionOn w ≡ lapsedBy (collectionOn w) n

@@ -32,7 +32,12 @@ conduct-ok : (h : History) → Lawful h → conductOk (conductOf h) ≡ true
 conduct-ok h w =
     let k = year-kept h (sorted h w) in
     let d = in-days h w in
-    simp (le-leb (conductOf h .first) (finalDay + 1) (omega arith), le-leb _ _ (k .two), le-leb _ _ (k .three), le-leb (conductOf h .cut) (finalDay + 1) (omega arith))
+    simp (
+      le-leb (conductOf h .first) (finalDay + 1) (omega arith),
+      le-leb _ _ (k .two),
+      le-leb _ _ (k .three),
+      le-leb (conductOf h .cut) (finalDay + 1) (omega arith),
+    )
 
 -- full for 365 days
 long-is : (h : History) → Lawful h → (t : ℕ) → (full h && leb (paidOn h + 365) t) ≡ (full h && leb (fullOn h + 365) t)

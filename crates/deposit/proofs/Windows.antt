@@ -77,7 +77,8 @@ ones-is : (m t : ℕ) (b : Bool) → inYearBy m t ≡ b → ones m t ≡ cond b 
 unfolding ones
 ones-is m t b q = simp q
 
-counted : (h : History) (t : ℕ) → Sorted h → lastPosted h ≤ t → min (notices h t) 3 ≡ ones (conductOf h .first) t + ones (conductOf h .second) t + ones (conductOf h .third) t
+counted : (h : History) (t : ℕ) → Sorted h → lastPosted h ≤ t
+    → min (notices h t) 3 ≡ ones (conductOf h .first) t + ones (conductOf h .second) t + ones (conductOf h .third) t
 unfolding conductOf
 counted [] t s l = omega (arith, ones-is 0 t false (year-none t))
 counted (e ∷ h) t s l =

@@ -69,7 +69,8 @@ told-taken : (n v k : ℕ) → n ≤ 22 → 256 + k ≡ told n v → (n ≡ 0) �
 told-taken zero v k h e = (refl, omega (arith, e))
 told-taken (suc n) v k h e = absurd (omega (arith, e))
 
-pub stored-wrote : (cs ks os ds ms old new : List ℕ) (k : ℕ) → Stored cs ks os ds ms old new (256 + k) → WroteBook cs ks os ds ms old new 0 × (k ≡ size (length cs) (length ks))
+pub stored-wrote : (cs ks os ds ms old new : List ℕ) (k : ℕ) → Stored cs ks os ds ms old new (256 + k)
+    → WroteBook cs ks os ds ms old new 0 × (k ≡ size (length cs) (length ks))
 stored-wrote cs ks os ds ms old new k s =
     let p = told-taken _ _ k (write-small cs ks os ds ms (length old)) (s .answer) in
     (record { answer = sym (p .0); bytes = s .bytes }, p .1 ∙ length-written cs ks os ds ms (length old) (p .0))

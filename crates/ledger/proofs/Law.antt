@@ -74,7 +74,8 @@ open-unpaid p x q =
     (λ b l. b ∙ sym (le-ltb 0 (unpaid p x) (omega arith)))
 
 kept-open : (h : History) → Lawful h → kept h ≡ openItems h
-kept-open h w = keep-same (Sound (charged h)) (isOpen (credits h)) (λ x. ltb 0 (unpaid (credits h) x)) (λ x p. open-unpaid (credits h) x (p .1)) (items h) (sound h w)
+kept-open h w = keep-same (Sound (charged h)) (isOpen (credits h)) (λ x. ltb 0 (unpaid (credits h) x)) (λ x p. open-unpaid (credits h) x (p .1))
+    (items h) (sound h w)
 
 kept-more : (h : History) (e : Event) → Lawful (e ∷ h) → keep (isOpen (credits (e ∷ h))) (kept h ++ new h e) ≡ kept (e ∷ h)
 kept-more h e w =
@@ -133,7 +134,8 @@ joins h e l w s =
       credited-is = s .credited-is;
       paid-is = s .paid-is;
       made-is = rw (q, length-append) (omega (arith, s .made-is));
-      placed = rw (q, s .made-is, c) (placed-more (items h) (l .ring) (s .placed) (record { day = e .day; amount = charge h e; upto = charged h + charge h e }));
+      placed = rw (q, s .made-is, c)
+          (placed-more (items h) (l .ring) (s .placed) (record { day = e .day; amount = charge h e; upto = charged h + charge h e }));
       open-are = enter-open l (s .formed) (e .day) (charge h e) n ∙ rw (q, s .open-are, c);
     }))
     (λ q.
@@ -150,7 +152,8 @@ joins h e l w s =
     }))
 
 -- then it is settled
-settles : (h : History) (e : Event) (l : Ledger) → Lawful (e ∷ h) → Joined h e l → Stored (e ∷ h) (settled (paidFrom (creditedIn l (creditBy (held h) e)) (amountIf payout e)))
+settles : (h : History) (e : Event) (l : Ledger) → Lawful (e ∷ h) → Joined h e l
+    → Stored (e ∷ h) (settled (paidFrom (creditedIn l (creditBy (held h) e)) (amountIf payout e)))
 settles h e l w s =
     let m = paidFrom (creditedIn l (creditBy (held h) e)) (amountIf payout e) in
     let f : Formed m = record { size = s .formed .size; closed-le = s .formed .closed-le; chain = s .formed .chain } in

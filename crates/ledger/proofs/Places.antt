@@ -43,14 +43,22 @@ module _ (xs : List Item) (s : List ℕ) (p : Placed xs s) (x : Item) where
             on-lt k (length xs)
             (λ q l. day-old s k (length xs) (x .day) (x .upto) (apart k (length xs) l (omega (arith, more))) ∙ (p .days k l (omega (arith, more))
             ∙ ap (λ y. y .day) (sym (List·getD-append xs (x ∷ []) zeroItem k l))))
-            (λ q l. let z : k ≡ length xs = omega (arith, more) in rw z (day-new s (p .size) (length xs) (x .day) (x .upto) ∙ ap (λ y. y .day) (sym (getD-append-seam xs x [] zeroItem))));
+            (λ q l. let z : k
+            ≡ length xs =
+            omega (arith, more) in rw z
+            (day-new s (p .size) (length xs) (x .day) (x .upto) ∙ ap (λ y. y .day) (sym (getD-append-seam xs x [] zeroItem))));
         uptos = λ k a b.
             on-lt k (length xs)
             (λ q l. upto-old s k (length xs) (x .day) (x .upto) (apart k (length xs) l (omega (arith, more))) ∙ (p .uptos k l (omega (arith, more))
             ∙ ap (λ y. y .upto) (sym (List·getD-append xs (x ∷ []) zeroItem k l))))
-            (λ q l. let z : k ≡ length xs = omega (arith, more) in rw z (upto-new s (p .size) (length xs) (x .day) (x .upto) ∙ ap (λ y. y .upto) (sym (getD-append-seam xs x [] zeroItem))));
-        free-days = λ k a b. day-old s k (length xs) (x .day) (x .upto) (λ e. apart (length xs) k (omega (arith, more)) (omega (arith, more)) (sym e)) ∙ p .free-days k (omega (arith, more)) b;
-        free-uptos = λ k a b. upto-old s k (length xs) (x .day) (x .upto) (λ e. apart (length xs) k (omega (arith, more)) (omega (arith, more)) (sym e)) ∙ p .free-uptos k (omega (arith, more)) b;
+            (λ q l. let z : k
+            ≡ length xs =
+            omega (arith, more) in rw z
+            (upto-new s (p .size) (length xs) (x .day) (x .upto) ∙ ap (λ y. y .upto) (sym (getD-append-seam xs x [] zeroItem))));
+        free-days = λ k a b. day-old s k (length xs) (x .day) (x .upto) (λ e. apart (length xs) k (omega (arith, more)) (omega (arith, more)) (sym e))
+            ∙ p .free-days k (omega (arith, more)) b;
+        free-uptos = λ k a b. upto-old s k (length xs) (x .day) (x .upto) (λ e. apart (length xs) k (omega (arith, more)) (omega (arith, more)) (sym e))
+            ∙ p .free-uptos k (omega (arith, more)) b;
       }
 
 -- ---- the places say every word: what xs leave in the ring is one list

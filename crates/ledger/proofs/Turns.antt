@@ -70,7 +70,8 @@ sum-done f m k b c t s h l q =
     omega arith
 
 -- an item read word by word
-pub due-is : (p t x d a u k b : ℕ) (s : List ℕ) → x ≡ due p t (record { day = d; amount = a; upto = u }) → d ≡ dayAt s k → a ≡ u - b → u ≡ uptoAt s k → x ≡ due p t (itemAt s k b)
+pub due-is : (p t x d a u k b : ℕ) (s : List ℕ) → x ≡ due p t (record { day = d; amount = a; upto = u }) → d ≡ dayAt s k → a ≡ u - b → u ≡ uptoAt s k
+    → x ≡ due p t (itemAt s k b)
 due-is p t x d a u k b s e f h g = e ∙ rw (f, h, g)
 
 -- ---- item i of n from item k on
@@ -94,7 +95,8 @@ at-place p (suc n) k b (suc i) s h =
     let z : k + suc i ≡ suc k + i = omega arith in
     rw z (at-place p n (suc k) (uptoAt s k) i s (omega arith))
 
-pub open-at : (l : Ledger) (i : ℕ) → i < l .made - l .closed → shownItem (creditsBy l) (itemAt (l .ring) (l .closed + i) (sumBefore l i)) ≡ getD (openBy l) i noItem
+pub open-at : (l : Ledger) (i : ℕ) → i < l .made - l .closed → shownItem (creditsBy l) (itemAt (l .ring) (l .closed + i) (sumBefore l i))
+    ≡ getD (openBy l) i noItem
 open-at l i h = rw (before-is i (l .closed) (l .below) (l .ring)) at (at-place (creditsBy l) (l .made - l .closed) (l .closed) (l .below) i (l .ring) h)
 
 pub past-open : (l : Ledger) (i : ℕ) → l .made - l .closed ≤ i → noItem ≡ getD (openBy l) i noItem

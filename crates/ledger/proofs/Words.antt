@@ -34,7 +34,8 @@ settled-by w p k b e x y =
 
 module _ (w : List ℕ) (l : length w ≡ ledgerSize) where
   pub marks : (k b : ℕ) → Settled (ledgerOn w) k b → ledgerOn (set (set w 4 k) 5 b) ≡ settled (ledgerOn w)
-  marks k b s = rw (s .closed-is, s .below-is) (ap (λ v. ledgerOn (set (set v 4 (settled (ledgerOn w) .closed)) 5 (settled (ledgerOn w) .below))) (whole w (omega arith)))
+  marks k b s =
+      rw (s .closed-is, s .below-is) (ap (λ v. ledgerOn (set (set v 4 (settled (ledgerOn w) .closed)) 5 (settled (ledgerOn w) .below))) (whole w (omega arith)))
 
   pub credits : (a : ℕ) → ledgerOn (set w 1 (getD w 1 0 + a)) ≡ creditedIn (ledgerOn w) a
   credits a = ap (λ v. ledgerOn (set v 1 (getD w 1 0 + a))) (whole w (omega arith))

@@ -100,11 +100,27 @@ enteredIn l d a =
 
 abbrev pub creditedIn : Ledger → ℕ → Ledger
 creditedIn l a =
-    record { charged = l .charged; credited = l .credited + a; «paid_out» = l .«paid_out»; made = l .made; closed = l .closed; below = l .below; ring = l .ring }
+    record {
+      charged = l .charged;
+      credited = l .credited + a;
+      «paid_out» = l .«paid_out»;
+      made = l .made;
+      closed = l .closed;
+      below = l .below;
+      ring = l .ring;
+    }
 
 abbrev pub paidFrom : Ledger → ℕ → Ledger
 paidFrom l a =
-    record { charged = l .charged; credited = l .credited; «paid_out» = l .«paid_out» + a; made = l .made; closed = l .closed; below = l .below; ring = l .ring }
+    record {
+      charged = l .charged;
+      credited = l .credited;
+      «paid_out» = l .«paid_out» + a;
+      made = l .made;
+      closed = l .closed;
+      below = l .below;
+      ring = l .ring;
+    }
 
 -- what is paid is counted as closed; no place changes
 abbrev pub settled : Ledger → Ledger

@@ -49,7 +49,8 @@ DataLaws d = LawsOf (row d) (vals d)
 abbrev pub of-row : (R : RattleType) → Ty → (R .Denot → Val) → Data
 of-row R τ val = record { Denot = R .Denot; mir = τ; written = R .written; reaches = R .reaches; own = R .own; coded = R .coded; val = val }
 
-pub struct-laws : (D : structs.Declared) (L : structs-laws.Laws D) → Plains (structs.fields D) → structs-laws.Copyables (D .parts) → LawsOf (structs.row D) (structs-laws.vals D L)
+pub struct-laws : (D : structs.Declared) (L : structs-laws.Laws D) → Plains (structs.fields D) → structs-laws.Copyables (D .parts)
+    → LawsOf (structs.row D) (structs-laws.vals D L)
 struct-laws D L plain copy = record {
   tells = structs-laws.tells D L;
   makes = λ 𝓤 H A W. structs-laws.makes D plain 𝓤 H A;
@@ -57,7 +58,8 @@ struct-laws D L plain copy = record {
   copy = λ 𝓤 H A W. structs-laws.copy D copy 𝓤 H A W;
 }
 
-pub enum-laws : (D : enums.Declared) (L : enums-laws.Laws D) → Few (enums.shape D) → Plainss (enums.variants D) → enums-laws.Copyabless (D .parts) → LawsOf (enums.row D) (enums-laws.vals D L)
+pub enum-laws : (D : enums.Declared) (L : enums-laws.Laws D) → Few (enums.shape D) → Plainss (enums.variants D) → enums-laws.Copyabless (D .parts)
+    → LawsOf (enums.row D) (enums-laws.vals D L)
 enum-laws D L few plain copy = record {
   tells = enums-laws.tells D L;
   makes = λ 𝓤 H A W. enums-laws.makes D plain 𝓤 H A;
@@ -96,7 +98,8 @@ module _ (S T : Data) (p : Two S T) where
   pub record TwoLaws : Type 2 where
     pub laws : DataLaws struct
     -- the parts of a struct are as its own laws say, and a struct is made of any two
-    pub parts : (z : p .Denot) (v : Val) → Is (row struct) z (v ∷ []) → Is (row S) (p .first z) (vals S (p .first z)) × Is (row T) (p .second z) (vals T (p .second z))
+    pub parts : (z : p .Denot) (v : Val) → Is (row struct) z (v ∷ [])
+        → Is (row S) (p .first z) (vals S (p .first z)) × Is (row T) (p .second z) (vals T (p .second z))
     pub made : (s : S .Denot) (t : T .Denot) → Is (row S) s (vals S s) → Is (row T) t (vals T t) → Is (row struct) (p .make s t) (of s t ∷ [])
     -- a struct is its two parts
     pub whole : (z : p .Denot) → p .make (p .first z) (p .second z) ≡ z

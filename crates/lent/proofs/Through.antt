@@ -14,8 +14,63 @@ use base.Fml.{GName, Fml, ftrue, fsep, fat, flft, flent}
 use prog.Wp.{Heap, Calls, Loops, WpFn, Tables}
 use ghost.Atoms.{Atoms, sem}
 use contract.Monad.{fact}
-use types.Kit.{Given, ‵, raw, given, _⊛_, some, later, _$_, _∵_, !, qed, by, move, keep, drop, use1, use2, use3, split, join, pick, learn, check, rewrite, fsplit, fjoin, fpick, fpack, suffices, frame, await, done}
-use types.Run.{look, init, forget, stop, from, load, addr, of-opd, and-then, no-more, assigns, land, returns, enter, alloc1, alloc0, params1, pass1, pass0, free1, free0}
+use types.Kit.{
+  Given,
+  ‵,
+  raw,
+  given,
+  _⊛_,
+  some,
+  later,
+  _$_,
+  _∵_,
+  !,
+  qed,
+  by,
+  move,
+  keep,
+  drop,
+  use1,
+  use2,
+  use3,
+  split,
+  join,
+  pick,
+  learn,
+  check,
+  rewrite,
+  fsplit,
+  fjoin,
+  fpick,
+  fpack,
+  suffices,
+  frame,
+  await,
+  done,
+}
+use types.Run.{
+  look,
+  init,
+  forget,
+  stop,
+  from,
+  load,
+  addr,
+  of-opd,
+  and-then,
+  no-more,
+  assigns,
+  land,
+  returns,
+  enter,
+  alloc1,
+  alloc0,
+  params1,
+  pass1,
+  pass0,
+  free1,
+  free0,
+}
 use types.Part.{agg}
 use types.SemTy.{Body}
 use types.Tokens.{lft-new, lft-end}
@@ -36,7 +91,8 @@ use denote.Exit.{yes}
 use Rattle.lent.proofs.Data.{Data, row, vals, DataLaws, Two, of, struct, TwoLaws}
 use Rattle.lent.proofs.Posting as posting
 
-module _ (T E S : Data) (p : Two S T) (T′ : DataLaws T) (E′ : DataLaws E) (S′ : DataLaws S) (P′ : TwoLaws S T p) (f : Name) (posted : T .Denot → E .Denot → p .Denot) where
+module _ (T E S : Data) (p : Two S T) (T′ : DataLaws T) (E′ : DataLaws E) (S′ : DataLaws S) (P′ : TwoLaws S T p) (f : Name)
+    (posted : T .Denot → E .Denot → p .Denot) where
   abbrev P : Data
   P = struct S T p
 
@@ -88,12 +144,14 @@ module _ (T E S : Data) (p : Two S T) (T′ : DataLaws T) (E′ : DataLaws E) (S
 
     lies-out : ent 𝓤 (sem 𝓤 H A (partAt (row T) fullShare z l 0)) (guard 𝓤 (Is (row T) z (vals T z)) (sem 𝓤 H A (fat fullShare (T .mir) l 0 (T .val z))))
     unfolding partOf
-    lies-out = qed W (‵ (partAt (row T) fullShare z l 0) ∷ []) {P = guard 𝓤 (Is (row T) z (vals T z)) (sem 𝓤 H A (fat fullShare (T .mir) l 0 (T .val z)))} (fpick ! (λ vs. fsplit ! $
+    lies-out = qed W (‵ (partAt (row T) fullShare z l 0) ∷ []) {P = guard 𝓤 (Is (row T) z (vals T z)) (sem 𝓤 H A (fat fullShare (T .mir) l 0 (T .val z)))}
+        (fpick ! (λ vs. fsplit ! $
         spelt ! (row T) (Is (row T)) (shows 𝓤 H A (row T)) (vals T) (T′ .tells) fullShare z vs l 0 $
         move ! (1 ∷ []) $ peeks ! (row T) (Is (row T)) (shows 𝓤 H A (row T)) z (vals T z) (λ is. drop ! $
         use1 W (‵ (fat fullShare (T .mir) l 0 (T .val z))) (W .laws .raw-at fullShare (T .mir) l 0 (T .val z)) $ check ! is $ done !)))
 
-  module _ {M : Type 1} (𝓤 : URA M) (H : Heap 𝓤) (A : Atoms 𝓤) (W : Given 𝓤 H A) (h : T .Denot) (e : E .Denot) (is-h : Is (row T) h (vals T h)) (is-e : Is (row E) e (vals E e)) where
+  module _ {M : Type 1} (𝓤 : URA M) (H : Heap 𝓤) (A : Atoms 𝓤) (W : Given 𝓤 H A) (h : T .Denot) (e : E .Denot) (is-h : Is (row T) h (vals T h))
+      (is-e : Is (row E) e (vals E e)) where
     abbrev Post : Val → SProp 𝓤
     Post = walkOf 𝓤 H A through stayed (Through 𝓤 H A) .post ((tt, tt, tt, (h, (e, tt)), (vals T h, (vals E e, tt))), tt)
 
@@ -109,7 +167,8 @@ module _ (T E S : Data) (p : Two S T) (T′ : DataLaws T) (E′ : DataLaws E) (S
 
     goes-lent : (α l : ℕ) (δ : GName) → ent 𝓤 (sep 𝓤 (A .lft (α ∷ []) fullShare) (sem 𝓤 H A (Loan α l δ))) (LentTriple 𝓤 H A .pre (to-lent α l δ))
     goes-lent α l δ = qed W (‵ (flft (α ∷ []) fullShare) ∷ ‵ (Loan α l δ) ∷ []) ∵ nothing ! $ move ! (1 ∷ 0 ∷ []) $ join ! $
-        nothing ! $ owned ! (row E) (Is (row E)) (E′ .makes 𝓤 H A W) e _ is-e $ fjoin ! $ move ! (2 ∷ 0 ∷ []) $ fjoin ! $ move ! (1 ∷ 0 ∷ []) $ join ! $ frame ! $ done !
+        nothing ! $ owned ! (row E) (Is (row E)) (E′ .makes 𝓤 H A W) e _ is-e $ fjoin ! $ move ! (2 ∷ 0 ∷ []) $ fjoin ! $ move !
+        (1 ∷ 0 ∷ []) $ join ! $ frame ! $ done !
 
     abbrev Said : S .Denot → T .Denot → Type 0
     Said r z = (r ≡ p .first (posted h e)) × (z ≡ p .second (posted h e))
@@ -126,7 +185,8 @@ module _ (T E S : Data) (p : Two S T) (T′ : DataLaws T) (E′ : DataLaws E) (S
     module _ (C : Calls 𝓤 H) (Λ : Loops 𝓤 H) (fm : FmC 𝓤 H (W .laws) C) (known : Triple 𝓤 (C f) (LentTriple 𝓤 H A)) where
       walk : ent 𝓤 (onEntry 𝓤 H A (through .signature) tt tt (h, (e, tt)) (vals T h, (vals E e, tt))) (WpFn 𝓤 H C Λ code (T .val h ∷ E .val e ∷ []) Post)
       walk =
-          qed W (raw (onEntry 𝓤 H A (through .signature) tt tt (h, (e, tt)) (vals T h, (vals E e, tt))) ∷ []) ∵ keep ! [] $ enter ! C Λ code (T .val h ∷ E .val e ∷ []) _ $
+          qed W (raw (onEntry 𝓤 H A (through .signature) tt tt (h, (e, tt)) (vals T h, (vals E e, tt))) ∷ []) ∵ keep ! [] $ enter ! C Λ code
+          (T .val h ∷ E .val e ∷ []) _ $
           alloc1 ! (λ l₀. alloc1 ! (λ l₁. alloc1 ! (λ l₂. alloc1 ! (λ l₃. alloc1 ! (λ l₄. alloc1 ! (λ l₅. alloc1 ! (λ l₆. alloc0 ! $ params1 ! $
           pass1 ! (init ! 10 refl (T′ .lawful 𝓤 H A W .typed h _ is-h .0)) $ pass1 ! (init ! 8 refl (E′ .lawful 𝓤 H A W .typed e _ is-e .0)) $ pass0 ! $
           -- [room for _6; …; room for _5; …; room for _4; …; room for _3; …; _2; …; _1; …; room for _0; …]
@@ -138,7 +198,8 @@ module _ (T E S : Data) (p : Two S T) (T′ : DataLaws T) (E′ : DataLaws E) (S
           (α ∷ []) h l₃ 0) $ await ! tt $ pick ! (λ δ. split ! $
           move ! (2 ∷ 0 ∷ []) $ use2 W (raw (LentTriple 𝓤 H A .pre (to-lent α l₃ δ))) (goes-lent α l₃ δ) $
           -- [what `post_lent` asks; the lender's part; room for _6; …; _5; …; room for _4; …; …; _2; …; _1; …; room for _0; …]
-          calls-at ! fm (LentTriple 𝓤 H A) known (to-lent α l₃ δ) (and-then ! (load ! (from ! (stop !)) (look ! 4 refl)) (and-then ! (load ! (from ! (stop !)) (look ! 9 refl)) (no-more !))) (λ v.
+          calls-at ! fm (LentTriple 𝓤 H A) known (to-lent α l₃ δ)
+          (and-then ! (load ! (from ! (stop !)) (look ! 4 refl)) (and-then ! (load ! (from ! (stop !)) (look ! 9 refl)) (no-more !))) (λ v.
           use1 W (later (some (λ (r : S .Denot). ((‵ (flft (α ∷ []) fullShare) ⊛ ‵ ftrue) ⊛ ‵ (S .own r (v ∷ []))) ⊛ raw (ensured 𝓤 H A lent (Lent 𝓤 H A)
           (α ∷ [], tt) (x l₃ δ, (e, tt)) tt r)))) (id⊢ 𝓤 _) $ await ! tt $ pick ! (λ r.
           -- what `post_lent` ensures, at some last account
@@ -147,22 +208,26 @@ module _ (T E S : Data) (p : Two S T) (T′ : DataLaws T) (E′ : DataLaws E) (S
           split ! $ move ! (1 ∷ []) $ heard ! (Said r (zs .0)) (λ eq. fsplit ! $ move ! (2 ∷ []) $ split ! $ move ! (1 ∷ []) $
           -- [what r owns; the token; the last value; …; the lender's part; room for _6; …; _5; …; room for _4; …; …; _2; …; _1; …; room for _0; …]
           peeks ! (row S) (Is (row S)) (shows 𝓤 H A (row S)) r (v ∷ []) (λ is-r.
-          land ! (from ! (stop !)) (init ! 9 refl (S′ .lawful 𝓤 H A W .typed r _ is-r .0)) $ rewrite ! 9 (λ (u : Val). ‵ (fat fullShare (S .mir) l₄ 0 u)) (ap only (S′ .tells r (v ∷ []) is-r)) refl $
+          land ! (from ! (stop !)) (init ! 9 refl (S′ .lawful 𝓤 H A W .typed r _ is-r .0)) $ rewrite ! 9 (λ (u : Val). ‵ (fat fullShare (S .mir) l₄ 0 u))
+          (ap only (S′ .tells r (v ∷ []) is-r)) refl $
           -- the lifetime is ended, and the local comes back at that account
           move ! (1 ∷ []) $ split ! $ lft-end ! tt $ move ! (0 ∷ 5 ∷ 3 ∷ []) $
           use3 W (later (‵ (partAt (row T) fullShare (zs .0) l₃ 0))) (ref-back 𝓤 H A W (row T) (α ∷ []) δ (zs .0) l₃ 0) $ await ! tt $
-          use1 W (given (Is (row T) (zs .0) (vals T (zs .0))) (‵ (fat fullShare (T .mir) l₃ 0 (T .val (zs .0))))) (lies-out 𝓤 H A W (zs .0) l₃) $ learn ! (λ is-z.
+          use1 W (given (Is (row T) (zs .0) (vals T (zs .0))) (‵ (fat fullShare (T .mir) l₃ 0 (T .val (zs .0)))))
+          (lies-out 𝓤 H A W (zs .0) l₃) $ learn ! (λ is-z.
           -- [_3; true; what r owns; …; room for _6; …; _5; …; _4; …; …; _2; …; _1; …; room for _0; …]
           assigns ! (of-opd ! (load ! (from ! (stop !)) (look ! 0 refl))) (from ! (stop !)) (init ! 4 refl (T′ .lawful 𝓤 H A W .typed (zs .0) _ is-z .0)) $
           assigns ! (agg ! (and-then ! (load ! (from ! (stop !)) (look ! 8 refl)) (and-then ! (load ! (from ! (stop !)) (look ! 4 refl)) (no-more !))))
           (from ! (stop !)) (init ! 15 refl (P′ .laws .lawful 𝓤 H A W .typed (p .make r (zs .0)) _ (joined r v (zs .0) is-r is-z) .0)) $
-          returns ! (look ! 15 refl) $ forget ! 0 refl $ forget ! 4 refl $ forget ! 6 refl $ forget ! 8 refl $ forget ! 11 refl $ forget ! 13 refl $ forget ! 15 refl $
+          returns ! (look ! 15 refl) $ forget ! 0 refl $ forget ! 4 refl $ forget ! 6 refl $ forget ! 8 refl $ forget ! 11 refl $ forget ! 13 refl $
+          forget ! 15 refl $
           move ! (15 ∷ 16 ∷ []) $ free1 ! $ move ! (13 ∷ 14 ∷ []) $ free1 ! $ move ! (11 ∷ 12 ∷ []) $ free1 ! $ move ! (0 ∷ 10 ∷ []) $ free1 ! $ move !
           (7 ∷ 8 ∷ []) $ free1 ! $ move ! (5 ∷ 6 ∷ []) $ free1 ! $ move ! (3 ∷ 4 ∷ []) $ free1 ! $ free0 ! $
           keep ! [] $ by ! (exits r (zs .0) (joined r v (zs .0) is-r is-z) eq))))))))))))))))
 
   module _ {M : Type 1} (𝓤 : URA M) (H : Heap 𝓤) (A : Atoms 𝓤) (W : Given 𝓤 H A) where
-    walks : (C : Calls 𝓤 H) (Λ : Loops 𝓤 H) → FmC 𝓤 H (W .laws) C → Triple 𝓤 (C f) (LentTriple 𝓤 H A) → Walks 𝓤 H A through stayed (WpFn 𝓤 H C Λ code) (Through 𝓤 H A)
+    walks : (C : Calls 𝓤 H) (Λ : Loops 𝓤 H) → FmC 𝓤 H (W .laws) C → Triple 𝓤 (C f) (LentTriple 𝓤 H A)
+        → Walks 𝓤 H A through stayed (WpFn 𝓤 H C Λ code) (Through 𝓤 H A)
     walks C Λ fm known = walked 𝓤 H A through stayed (Through 𝓤 H A) (WpFn 𝓤 H C Λ code) (λ κs. (vals T, (vals E, tt))) (λ κs. (T′ .tells, (E′ .tells, tt)))
         (λ κs qs bounds a g are. via 𝓤 _ (fst∗ 𝓤 _ (emp 𝓤)) (walk 𝓤 H A W (a .0) (a .1 .0) (are .0) (are .1 .0) C Λ fm known))
 
@@ -172,6 +237,7 @@ module _ (T E S : Data) (p : Two S T) (T′ : DataLaws T) (E′ : DataLaws E) (S
     -- of the function's own clauses, which say the same
     pub meets : (c : Clauses 𝓤 through) → c ≡ Through 𝓤 H A → (𝓣 : Tables 𝓤 H) → Triple 𝓤 (𝓣 .C f) (LentTriple 𝓤 H A)
         → Meets 𝓤 H A (through .signature) (WpFn 𝓤 H (𝓣 .C) (𝓣 .Λ) code) (closing 𝓤 H A through c)
-    meets c same 𝓣 known = subst (λ (d : Clauses 𝓤 through). Meets 𝓤 H A (through .signature) (WpFn 𝓤 H (𝓣 .C) (𝓣 .Λ) code) (closing 𝓤 H A through d)) (sym same)
+    meets c same 𝓣 known =
+        subst (λ (d : Clauses 𝓤 through). Meets 𝓤 H A (through .signature) (WpFn 𝓤 H (𝓣 .C) (𝓣 .Λ) code) (closing 𝓤 H A through d)) (sym same)
         (walk-meets 𝓤 H A through stayed W goes (Through 𝓤 H A) (WpFn 𝓤 H (𝓣 .C) (𝓣 .Λ) code) (WpFn-mono 𝓤 H (W .laws) 𝓣 code)
         (walks (𝓣 .C) (𝓣 .Λ) (fmOf 𝓤 H (W .laws) 𝓣) known))

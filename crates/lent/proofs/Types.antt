@@ -48,7 +48,8 @@ both = record {
 pub both-laws : TwoLaws answerData accountData both
 both-laws = record {
   laws = struct-laws posted-type.the-type posted-type′.the-laws posted-type′.the-plain posted-type′.the-copy;
-  parts = λ z v is. (structs.owed posted-type.the-type posted-type′.the-laws z (v ∷ []) is .0, structs.owed posted-type.the-type posted-type′.the-laws z (v ∷ []) is .1 .0);
+  parts = λ z v is.
+      (structs.owed posted-type.the-type posted-type′.the-laws z (v ∷ []) is .0, structs.owed posted-type.the-type posted-type′.the-laws z (v ∷ []) is .1 .0);
   made = λ s t is-s is-t. structs.owes posted-type.the-type posted-type′.the-laws (record { answer = s; account = t }) (is-s, (is-t, tt));
   whole = λ z. refl;
 }

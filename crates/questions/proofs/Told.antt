@@ -16,7 +16,23 @@ use Rattle.rules.specs.Arrangement.{inForce}
 use Rattle.rules.specs.Accepted.{dayRows, dayRefusal}
 use Rattle.ledger.specs.Ledger.{shownItem}
 use Rattle.account.specs.State.{State, wordsOf, accountOf}
-use Rattle.questions.specs.Questions.{askedOf, owedIn, heldIn, requiredIn, serviceIn, openIn, countIn, toldCents, toldTruth, arrearsOn, inForceOn, noticeLiveOn, certifiedOn, Tells, Says}
+use Rattle.questions.specs.Questions.{
+  askedOf,
+  owedIn,
+  heldIn,
+  requiredIn,
+  serviceIn,
+  openIn,
+  countIn,
+  toldCents,
+  toldTruth,
+  arrearsOn,
+  inForceOn,
+  noticeLiveOn,
+  certifiedOn,
+  Tells,
+  Says,
+}
 use Rattle.questions.proofs.Laws.{Laws}
 
 -- a day that no number refuses is not before the last; of one that is refused nothing is told

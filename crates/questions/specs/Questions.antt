@@ -1,4 +1,5 @@
--- What an account answers, of any memory: what is no account owes and holds nothing, has no open items and is closed, and every question for a day is refused with 0.
+-- What an account answers, of any memory: what is no account owes and holds nothing, has no open items and is closed, and every
+-- question for a day is refused with 0.
 use Prim.Native.Nat.{ℕ, _-_}
 use mathlib.Core.Path.{_≡_}
 use mathlib.Core.Bool.{Bool, true, false, cond, _&&_}

@@ -59,7 +59,8 @@ places (e ∷ h) w =
     let k = places h (w .1) in
     let n = length (payments h) in
     on-eq (e .kind) payment
-    (λ q z. rw (z, count-is h) (next-place (receiptsOf h .recent) (payments h) n (returned h) k (full-length h) (e .amount) (not-yet h (w .1) (suc n) (omega arith))))
+    (λ q z. rw (z, count-is h)
+    (next-place (receiptsOf h .recent) (payments h) n (returned h) k (full-length h) (e .amount) (not-yet h (w .1) (suc n) (omega arith))))
     (λ q _. on-eq (e .kind) returnedPayment
     (λ r z. let c = return-known h e (passed h e (w .0)) z in
     rw z (cleared-place (receiptsOf h .recent) (payments h) n (returned h) k (e .amount) (c .high) (c .near)))

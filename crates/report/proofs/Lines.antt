@@ -87,7 +87,8 @@ module _ (i : ℕ) (m : ℤ) (h o : ℕ) (v : Service) (r : ℕ) where
   line-short = omega (arith, line-length, width-short i, signed-short m, width-short h, width-short o, word-short v, width-short r)
 
 pub standing-length : (i : ℕ) (s : Standing) → length (standingLine i s)
-    ≡ width i + length (signed (subℕ (s .charged) (s .credits))) + width (s .held) + (width (s .«open_count») + length (wordOf (s .service)) + width (s .refused)) + 6
+    ≡ width i + length (signed (subℕ (s .charged) (s .credits))) + width (s .held) +
+    (width (s .«open_count») + length (wordOf (s .service)) + width (s .refused)) + 6
 standing-length i s = ap length (standing-line i s) ∙ line-length i (subℕ (s .charged) (s .credits)) (s .held) (s .«open_count») (s .service) (s .refused)
 
 -- no account's line is longer than 113 bytes

@@ -75,7 +75,8 @@ charge-above h e r c =
     (λ p _. on-eq (e .kind) returnedPayment (λ _ z. rw z (omega arith))
     (λ q _. on-eq (e .kind) fee (λ _ z. let a = ranged fee e r z in rw z (omega (arith, fee-above (e .option) (a .option-low) (omega arith))))
     (λ s _. on-eq (e .kind) finalNotice (λ _ z. rw z (omega arith))
-    (λ u _. on-eq (e .kind) reconnection (λ _ z. let a = ranged reconnection e r z in rw z (omega (arith, fee-above (6 + e .option) (omega arith) (omega arith))))
+    (λ u _. on-eq (e .kind) reconnection
+    (λ _ z. let a = ranged reconnection e r z in rw z (omega (arith, fee-above (6 + e .option) (omega arith) (omega arith))))
     (λ v _. absurd (true≢false (sym c ∙ simp (p, q, s, u, v))))))))
 
 -- ---- the deposit

@@ -20,7 +20,8 @@ use Rattle.rules.specs.Accepted.{refusal, cutOn, mayCut}
 
 -- the rows that concern a disconnection, of the values they look at: the service, arrears too low, and the rest
 rows : (s : Service) (low n c f m p : Bool)
-    → eqb (cond (isClosed s && true) 4 (cond ((not (isOn s)) || false) 5 (cond low 10 (cond (not n) 12 (cond (not c) 13 (cond f 14 (cond (m && not p) 15 0))))))) 0
+    → eqb (cond (isClosed s && true) 4
+    (cond ((not (isOn s)) || false) 5 (cond low 10 (cond (not n) 12 (cond (not c) 13 (cond f 14 (cond (m && not p) 15 0))))))) 0
     ≡ (isOn s && not low && n && c && not f && (not m || p))
 rows Closed low n c f m p = refl
 rows Off low n c f m p = refl

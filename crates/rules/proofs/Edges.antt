@@ -2,7 +2,43 @@
 use Prim.Native.Nat.{ℕ}
 use mathlib.Core.List.{List, [], _∷_, _++_}
 use Rattle.rules.specs.declared.Event.{Event}
-use Rattle.rules.proofs.Events.{event, bill, payment, returned, fee, askedDeposit, paid, moved, payout, certificate, approval, arrangement, notice, call, cutOff, reconnection, close, times, receipt, owed, credit, held, required, open-count, open-day, open-part, arrears, service-is, live, certified, stands, refused, Case, ends, shows}
+use Rattle.rules.proofs.Events.{
+  event,
+  bill,
+  payment,
+  returned,
+  fee,
+  askedDeposit,
+  paid,
+  moved,
+  payout,
+  certificate,
+  approval,
+  arrangement,
+  notice,
+  call,
+  cutOff,
+  reconnection,
+  close,
+  times,
+  receipt,
+  owed,
+  credit,
+  held,
+  required,
+  open-count,
+  open-day,
+  open-part,
+  arrears,
+  service-is,
+  live,
+  certified,
+  stands,
+  refused,
+  Case,
+  ends,
+  shows,
+}
 use Rattle.rules.proofs.Paper.{b, d}
 
 -- a full deposit of 100 on day 0
@@ -358,7 +394,8 @@ arrangements =
     ∷ ends "payments after it do" (bill 0 6000 ∷ payment 0 1000 ∷ arrangement 20 2 ∷ payment 50 2500 ∷ arrangement 50 2 ∷ []) 9
     ∷ ends "payments of its day, posted before it" (bill 0 6000 ∷ payment 20 1000 ∷ arrangement 20 2 ∷ payment 50 2499 ∷ arrangement 50 2 ∷ []) 0
     ∷ ends "a deposit paid is no payment" (bill 0 6000 ∷ arrangement 20 2 ∷ askedDeposit 20 9000 ∷ paid 20 9000 ∷ arrangement 50 2 ∷ []) 0
-    ∷ ends "a deposit that is moved is no payment" (askedDeposit 0 3000 ∷ paid 0 3000 ∷ bill 300 6000 ∷ arrangement 340 2 ∷ moved 365 ∷ arrangement 370 2 ∷ []) 0
+    ∷ ends "a deposit that is moved is no payment"
+    (askedDeposit 0 3000 ∷ paid 0 3000 ∷ bill 300 6000 ∷ arrangement 340 2 ∷ moved 365 ∷ arrangement 370 2 ∷ []) 0
     ∷ ends "returns count without their fee" (bill 0 6000 ∷ arrangement 20 2 ∷ payment 20 4000 ∷ payment 20 3000 ∷ returned 21 1 ∷ arrangement 50 2 ∷ []) 9
     ∷ ends "returns count against it" (bill 0 6000 ∷ arrangement 20 2 ∷ payment 20 4000 ∷ payment 20 2999 ∷ returned 21 1 ∷ arrangement 50 2 ∷ []) 0
     ∷ ends "a payment older than it, returned after it" (bill 0 6000 ∷ payment 0 10 ∷ arrangement 20 2 ∷ returned 20 1 ∷ arrangement 20 2 ∷ []) 0
@@ -402,7 +439,8 @@ limits =
     ∷ ends "C at the limit by a notice" (settled ++ (bill 0 9999998500 ∷ notice 20 ∷ [])) 0
     ∷ ends "C over the limit by a notice" (settled ++ (bill 0 9999998501 ∷ notice 20 ∷ [])) 19
     ∷ ends "C at the limit by a reconnection" (settled ++ (bill 0 9999996500 ∷ notice 20 ∷ call 22 ∷ cutOff 25 ∷ arrangement 25 2 ∷ reconnection 25 0 ∷ [])) 0
-    ∷ ends "C over the limit by a reconnection" (settled ++ (bill 0 9999996501 ∷ notice 20 ∷ call 22 ∷ cutOff 25 ∷ arrangement 25 2 ∷ reconnection 25 0 ∷ [])) 19
+    ∷ ends "C over the limit by a reconnection"
+    (settled ++ (bill 0 9999996501 ∷ notice 20 ∷ call 22 ∷ cutOff 25 ∷ arrangement 25 2 ∷ reconnection 25 0 ∷ [])) 19
     ∷ ends "C at the limit: what makes no item" (settled ++ (bill 0 10000000000 ∷ quiet 20) ++ (call 20 ∷ arrangement 20 2 ∷ close 20 ∷ [])) 0
     ∷ ends "payments up to the limit" (rich ++ (payment 0 10000000000 ∷ [])) 0
     ∷ ends "payments over the limit" (rich ++ (payment 0 10000000000 ∷ payment 0 1 ∷ [])) 19

@@ -19,7 +19,8 @@ keep-append f (x ∷ xs) ys =
     on (f x) (λ q. rw (q, ih)) (λ q. rw (q, ih))
 
 -- a second test that implies the first needs the first no more
-pub keep-keep : (P : Item → Type 0) (f g : Item → Bool) → ((x : Item) → P x → g x ≡ true → f x ≡ true) → (xs : List Item) → All P xs → keep g (keep f xs) ≡ keep g xs
+pub keep-keep : (P : Item → Type 0) (f g : Item → Bool) → ((x : Item) → P x → g x ≡ true → f x ≡ true) → (xs : List Item) → All P xs
+    → keep g (keep f xs) ≡ keep g xs
 keep-keep P f g h [] p = refl
 keep-keep P f g h (x ∷ xs) p =
     let ih = keep-keep P f g h xs (p .1) in

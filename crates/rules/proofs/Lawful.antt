@@ -16,7 +16,19 @@ use Rattle.rules.specs.Deposit.{held}
 use Rattle.rules.specs.Money.{credited, credits, charged, owed}
 use Rattle.rules.specs.Sums.{lateCharges, feesCharged, returnedPayments}
 use Rattle.rules.specs.Answer.{numberOf, receiptOf}
-use Rattle.rules.specs.Accepted.{viewOf, refusal, offered, acceptedAfter, accepted, Lawful, answer, answersAfter, refusalsAfter, receiptsGiven, receiptAfter}
+use Rattle.rules.specs.Accepted.{
+  viewOf,
+  refusal,
+  offered,
+  acceptedAfter,
+  accepted,
+  Lawful,
+  answer,
+  answersAfter,
+  refusalsAfter,
+  receiptsGiven,
+  receiptAfter,
+}
 use Rattle.rules.proofs.Sums.{total-grows, credited-step, deposits, charged-parts}
 use Rattle.rules.proofs.Passed.{passed}
 use Rattle.rules.proofs.Room.{payout-in}
@@ -62,5 +74,6 @@ pub money : (h : History) → Lawful h
     ≡ subℕ (total bill h + lateCharges h + feesCharged h + returnedPayments h + total payout h) (total payment h + total depositPaid h)
 money h l =
     less-more (charged h) (credits h) (held h)
-    ∙ difference (charged h) (credits h + held h) (total bill h + lateCharges h + feesCharged h + returnedPayments h + total payout h) (total payment h + total depositPaid h)
+    ∙ difference (charged h) (credits h + held h) (total bill h + lateCharges h + feesCharged h + returnedPayments h + total payout h)
+    (total payment h + total depositPaid h)
     (omega (arith, deposits h, charged-parts h, payouts h l))

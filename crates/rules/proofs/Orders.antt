@@ -3,7 +3,26 @@
 use Prim.Native.Nat.{ℕ}
 use mathlib.Core.List.{List, [], _∷_, _++_}
 use Rattle.rules.specs.declared.Event.{Event}
-use Rattle.rules.proofs.Events.{event, bill, payment, returned, fee, askedDeposit, paid, moved, certificate, arrangement, notice, call, cutOff, reconnection, close, times, Case, ends}
+use Rattle.rules.proofs.Events.{
+  event,
+  bill,
+  payment,
+  returned,
+  fee,
+  askedDeposit,
+  paid,
+  moved,
+  certificate,
+  arrangement,
+  notice,
+  call,
+  cutOff,
+  reconnection,
+  close,
+  times,
+  Case,
+  ends,
+}
 use Rattle.rules.proofs.Paper.{b, d}
 use Rattle.rules.proofs.Edges.{full, rich}
 

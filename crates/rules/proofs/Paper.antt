@@ -1,7 +1,33 @@
 -- Document 01's own examples: the marked histories a to l, the example of each row of the table, and that of `standing`.
 use mathlib.Core.List.{List, [], _∷_, _++_}
 use Rattle.rules.specs.declared.Event.{Event}
-use Rattle.rules.proofs.Events.{bill, payment, returned, fee, askedDeposit, paid, moved, payout, certificate, approval, arrangement, notice, call, cutOff, reconnection, close, times, owed, held, open-count, service-is, refused, Case, ends, shows}
+use Rattle.rules.proofs.Events.{
+  bill,
+  payment,
+  returned,
+  fee,
+  askedDeposit,
+  paid,
+  moved,
+  payout,
+  certificate,
+  approval,
+  arrangement,
+  notice,
+  call,
+  cutOff,
+  reconnection,
+  close,
+  times,
+  owed,
+  held,
+  open-count,
+  service-is,
+  refused,
+  Case,
+  ends,
+  shows,
+}
 
 -- the bill and the notice that the histories begin with, and the disconnection of d
 abbrev pub b : List Event

@@ -11,7 +11,28 @@ use Rattle.rules.specs.declared.View.{View}
 use Rattle.rules.specs.Limits.{finalDay}
 use Rattle.rules.specs.History.{History, lastPosted}
 use Rattle.rules.specs.Range.{inRange}
-use Rattle.rules.specs.Table.{Row, row4, row5, row6, row7, row8, row9, row10, row11, row12, row13, row14, row15, row16, row17, row18, row19, table, firstOf, refusalBy}
+use Rattle.rules.specs.Table.{
+  Row,
+  row4,
+  row5,
+  row6,
+  row7,
+  row8,
+  row9,
+  row10,
+  row11,
+  row12,
+  row13,
+  row14,
+  row15,
+  row16,
+  row17,
+  row18,
+  row19,
+  table,
+  firstOf,
+  refusalBy,
+}
 use Rattle.rules.specs.Accepted.{viewOf, refusal}
 
 -- an event that the table lets pass

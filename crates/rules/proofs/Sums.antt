@@ -74,7 +74,13 @@ no-charge c p r e q =
     let qn = or-left n (is reconnection e) q in
     let qf = or-left f (is finalNotice e) qn in
     let qm = or-left m (is fee e) qf in
-    simp (or-left b (is returnedPayment e) qm, or-right b (is returnedPayment e) qm, or-right m (is fee e) qf, or-right f (is finalNotice e) qn, or-right n (is reconnection e) q)
+    simp (
+      or-left b (is returnedPayment e) qm,
+      or-right b (is returnedPayment e) qm,
+      or-right m (is fee e) qf,
+      or-right f (is finalNotice e) qn,
+      or-right n (is reconnection e) q,
+    )
 
 -- an event that is no payment and moves no deposit credits nothing
 pub no-credit : (held : ℕ) (e : Event) → (is payment e || moves e) ≡ false → creditBy held e ≡ 0

@@ -104,7 +104,8 @@ receiptsGiven h (e ∷ es) = cond (eqb (refusal h e) 0) (receiptAfter h e) 0 ∷
 abbrev pub cutOn : ℕ → Event
 cutOn t = record { kind = disconnection; option = 0; day = t; amount = 0 }
 
--- a disconnection on t (document 01: a cut) is lawful: service on, arrears of 5,000, a live notice in its days, a call, no arrangement in force, no live certificate or an approval after the last
+-- a disconnection on t (document 01: a cut) is lawful: service on, arrears of 5,000, a live notice in its days, a call, no
+-- arrangement in force, no live certificate or an approval after the last
 abbrev pub mayCut : History → ℕ → Bool
 mayCut h t =
     isOn (service h)

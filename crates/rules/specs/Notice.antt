@@ -8,7 +8,8 @@ use Rattle.rules.specs.Kinds.{finalNotice, call, disconnection}
 use Rattle.rules.specs.History.{History, is, within, any}
 use Rattle.rules.specs.Money.{arrears}
 
--- some notice whose day passes p: no later disconnection used it up, and after it and after each later event the arrears on that event's day were at least 5,000
+-- some notice whose day passes p: no later disconnection used it up, and after it and after each later event the arrears on that
+-- event's day were at least 5,000
 abbrev pub surviving : (ℕ → Bool) → History → Bool
 surviving p [] = false
 surviving p (e ∷ h) =

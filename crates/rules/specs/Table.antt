@@ -5,7 +5,19 @@ use mathlib.Core.List.{List, [], _∷_}
 use lib.Dec.{leb, ltb, eqb}
 use Rattle.rules.specs.declared.Event.{Event}
 use Rattle.rules.specs.declared.View.{View}
-use Rattle.rules.specs.Kinds.{payment, returnedPayment, depositAsked, depositPaid, depositMoved, payout, arrangement, finalNotice, call, disconnection, reconnection}
+use Rattle.rules.specs.Kinds.{
+  payment,
+  returnedPayment,
+  depositAsked,
+  depositPaid,
+  depositMoved,
+  payout,
+  arrangement,
+  finalNotice,
+  call,
+  disconnection,
+  reconnection,
+}
 use Rattle.rules.specs.History.{is}
 use Rattle.rules.specs.Service.{isOn, isOff, isClosed}
 use Rattle.rules.specs.Deposit.{moves}

@@ -71,7 +71,8 @@ module _ (sizes : List ℕ) where
   here m l = record { words-are = l; cuts = refl }
 
   -- span i comes back as ys
-  pub then : (i : ℕ) (ys : List ℕ) {m : List ℕ} {cs : List (List ℕ)} → i < length sizes → length ys ≡ getD sizes i 0 → Parts m cs → Parts (back i ys m) (set cs i ys)
+  pub then : (i : ℕ) (ys : List ℕ) {m : List ℕ} {cs : List (List ℕ)} → i < length sizes → length ys ≡ getD sizes i 0 → Parts m cs
+      → Parts (back i ys m) (set cs i ys)
   then i ys {m} {cs} h l p =
       let f = start-end sizes 0 i h in
       record {

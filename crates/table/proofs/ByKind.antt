@@ -9,7 +9,22 @@ use borrow.Author.Tests.{ne-eqb}
 use Rattle.basics.specs.Machine.{largest}
 use Rattle.rules.specs.declared.Event.{Event}
 use Rattle.rules.specs.declared.View.{View}
-use Rattle.rules.specs.Kinds.{bill, payment, returnedPayment, fee, depositAsked, depositPaid, depositMoved, payout, arrangement, finalNotice, call, disconnection, reconnection, closing}
+use Rattle.rules.specs.Kinds.{
+  bill,
+  payment,
+  returnedPayment,
+  fee,
+  depositAsked,
+  depositPaid,
+  depositMoved,
+  payout,
+  arrangement,
+  finalNotice,
+  call,
+  disconnection,
+  reconnection,
+  closing,
+}
 use Rattle.rules.specs.Service.{isOn}
 use Rattle.rules.specs.Table.{chargeOf}
 use Rattle.table.specs.ByKind.{fromRow5, itemRows, creditRows, returnedRows, movedRows, noticeRows, cutRows, reconnectionRows}

@@ -33,7 +33,8 @@ module _ (v : View) (e : Event) where
   unfolding refusalBy
   refusal-seen =
       on (looksAtDebt e)
-      (λ d. on (is returnedPayment e) (λ r. on (is depositMoved e) (λ m. rw (d, r, m)) (λ m. rw (d, r, m))) (λ r. on (is depositMoved e) (λ m. rw (d, r, m)) (λ m. rw (d, r, m))))
+      (λ d. on (is returnedPayment e) (λ r. on (is depositMoved e) (λ m. rw (d, r, m)) (λ m. rw (d, r, m)))
+      (λ r. on (is depositMoved e) (λ m. rw (d, r, m)) (λ m. rw (d, r, m))))
       (λ d.
       let n = no-debt e d in
       on (is returnedPayment e)

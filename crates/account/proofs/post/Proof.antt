@@ -12,7 +12,8 @@ returns c =
     let j = c .before .before in
     let p = j .before .before .before in
     let s = p .before .before .before in
-    leaves-judged (s .args .m .now) (s .args .e) (j .judge .result) (j .judge .last .0) (sym (p .passes .ensures) ∙ j .before .before .if1 .taken) (search needs) (j .judge .ensures)
+    leaves-judged (s .args .m .now) (s .args .e) (j .judge .result) (j .judge .last .0) (sym (p .passes .ensures) ∙ j .before .before .if1 .taken)
+    (search needs) (j .judge .ensures)
 
 returns-2 : tie.Need-returns-2
 returns-2 c =

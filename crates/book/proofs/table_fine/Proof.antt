@@ -9,7 +9,8 @@ use Rattle.book.proofs.table_fine.Statement.{statement}
 use Rattle.book.proofs.table_fine.Tie as tie
 
 abbrev Inv-loop : tie.InvT-loop
-Inv-loop b a r start left₀ at₀ sum₀ left at sum = (tableFine (base a) r left at sum b ≡ tableFine (base a) r a 8 0 b) × (at + 8 * left ≡ base a) × (sum ≤ 4294967296 * (a - left)) × (left ≤ a)
+Inv-loop b a r start left₀ at₀ sum₀ left at sum =
+    (tableFine (base a) r left at sum b ≡ tableFine (base a) r a 8 0 b) × (at + 8 * left ≡ base a) × (sum ≤ 4294967296 * (a - left)) × (left ≤ a)
 
 abbrev μ-loop : tie.MeasureT-loop
 μ-loop b a r start left₀ at₀ sum₀ left at sum = left

@@ -19,8 +19,12 @@ note-account-requires c κs =
 returns-2 : tie.Need-returns-2
 returns-2 c =
     let s = c .before .before .before .before .before .before .before .before .before .before .args in
-    let e = sym (c .before .before .before .before .before .before .before .history-refusal .ensures) ∙ c .before .before .before .before .before .before .if1 .left in
-    (history-told (s .b .now) (s .i) (s .numbers .now) (s .owed .now) e _ _ (c .before .before .before .note-account .ensures .0) (c .before .before .before .note-account .ensures .1), refl)
+    let e = sym (c .before .before .before .before .before .before .before .history-refusal .ensures)
+    ∙ c .before .before .before .before .before .before .if1 .left in (
+      history-told (s .b .now) (s .i) (s .numbers .now) (s .owed .now) e _ _ (c .before .before .before .note-account .ensures .0)
+          (c .before .before .before .note-account .ensures .1),
+      refl,
+    )
 
 pub history-spec : {M : Type 1} → statement M
 history-spec =

@@ -81,7 +81,8 @@ loop-again c =
     let b = s .args .b .now in
     let z = s .pre .0 in
     let m : 8 + 8 * g .get .result + 16 * l .k ≡ base (accounts b) + 16 * l .k = omega (arith, g .get .ensures .0) in
-    turn _ _ (l .k) (l .left) (l .m) (l .refused) (l .inv) (r .event-at .result) (j .judge .result) (j .judge .last .0) (c .refusals .result) z (t .loop-test .taken)
+    turn _ _ (l .k) (l .left) (l .m) (l .refused) (l .inv) (r .event-at .result) (j .judge .result) (j .judge .last .0) (c .refusals .result) z
+    (t .loop-test .taken)
     (r .event-at .ensures ∙ (ap (λ p. eventAt p b) m ∙ record-at b (l .k) z (omega (arith, l .inv .within, t .loop-test .taken))))
     (search needs) (j .judge .ensures) (c .refusals .ensures)
 

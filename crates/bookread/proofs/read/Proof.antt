@@ -19,12 +19,16 @@ returns c =
     )
 
 take-book-requires : tie.Need-take-book-requires
-take-book-requires c κs = read-facts _ _ _ _ _ _ (sym (c .before .before .before .before .before .before .read-refusal .ensures) ∙ c .before .before .before .before .before .if1 .left)
+take-book-requires c κs =
+    read-facts _ _ _ _ _ _ (sym (c .before .before .before .before .before .before .read-refusal .ensures)
+    ∙ c .before .before .before .before .before .if1 .left)
 
 returns-2 : tie.Need-returns-2
 returns-2 c =
-    let e = sym (c .before .before .before .before .before .before .before .before .before .before .before .before .before .before .before .before .before .read-refusal .ensures) ∙ c .before .before .before .before .before .before .before .before .before .before .before .before .before .before .before .before .if1 .left in
-    (record { answer = sym e; memory = rw e (c .before .before .before .before .before .before .before .before .before .before .take-book .ensures) }, refl)
+    let t = c .before .before .before .before .before .before .before .before .before .before in
+    let k = t .before .before .before .before .before .before in
+    let e = sym (k .before .read-refusal .ensures) ∙ k .if1 .left in
+    (record { answer = sym e; memory = rw e (t .take-book .ensures) }, refl)
 
 pub read-spec : {M : Type 1} → statement M
 read-spec =

@@ -5,12 +5,16 @@ use Rattle.bookread.proofs.take_book.Tie as tie
 
 returns : tie.Need-returns
 returns c =
-    let s = c .before .before .before .before .before .before .before .before .before .before .before .before .before .before .before .before .before .before .before .before .before .before .before .before .before in
-    let e = c .before .before .before .before .before .before .before .before .before .before .before .before .before .before .before .before .before .before .get .ensures .0 in
-    let g = c .before .before .before .before .before .before .before .before .before .before .before .before .before .before .before .before .before .get2 .ensures .0 in
+    let k = c .before .before .before .before .before .before .before .before .before .before .before .before .before .before .before in
+    let n = k .before .before .before in
+    let s = n .before .before .before .before .before .before .before in
+    let e = n .get .ensures .0 in
+    let g = k .before .before .get2 .ensures .0 in
     let t = c .before .before .before .before .before .before .before .before .take-records .ensures in
-    gave-all (s .args .b .now) (s .args .counts .now) (s .args .kinds .now) (s .args .options .now) (s .args .days .now) (s .args .amounts .now) _ _ _ _ _ (s .pre)
-    (rw e at (c .before .before .before .before .before .before .before .before .before .before .before .before .before .before .before .take-counts .ensures)) (rw (e, g) at (t .0)) (rw (e, g) at (t .1 .0)) (rw (e, g) at (t .1 .1 .0)) (rw (e, g) at (t .1 .1 .1))
+    gave-all (s .args .b .now) (s .args .counts .now) (s .args .kinds .now) (s .args .options .now) (s .args .days .now)
+    (s .args .amounts .now) _ _ _ _ _ (s .pre)
+    (rw e at (k .take-counts .ensures))
+    (rw (e, g) at (t .0)) (rw (e, g) at (t .1 .0)) (rw (e, g) at (t .1 .1 .0)) (rw (e, g) at (t .1 .1 .1))
 
 pub take-book-spec : {M : Type 1} → statement M
 take-book-spec =

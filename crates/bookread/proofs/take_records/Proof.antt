@@ -11,7 +11,8 @@ use Rattle.bookread.proofs.take_records.Statement.{statement}
 use Rattle.bookread.proofs.take_records.Tie as tie
 
 abbrev Inv-loop : tie.InvT-loop
-Inv-loop b p n kinds₀ options₀ days₀ amounts₀ left₀ at₀ i₀ kinds options days amounts left at i = (sets kinds i (kindsOf (eventsAt left at b)) ≡ sets kinds₀ 0 (kindsOf (eventsAt n p b)))
+Inv-loop b p n kinds₀ options₀ days₀ amounts₀ left₀ at₀ i₀ kinds options days amounts left at i =
+    (sets kinds i (kindsOf (eventsAt left at b)) ≡ sets kinds₀ 0 (kindsOf (eventsAt n p b)))
     × (sets options i (optionsOf (eventsAt left at b)) ≡ sets options₀ 0 (optionsOf (eventsAt n p b)))
     × (sets days i (daysOf (eventsAt left at b)) ≡ sets days₀ 0 (daysOf (eventsAt n p b)))
     × (sets amounts i (amountsOf (eventsAt left at b)) ≡ sets amounts₀ 0 (amountsOf (eventsAt n p b)))

@@ -16,7 +16,8 @@ use Rattle.bookwrite.proofs.put_book.Tie as tie
 
 returns : tie.Need-returns
 returns c =
-    let s = c .before .before .before .before .before .before .before .before .before .before .before .before .before .before .before .before .before .before .args in
+    let k = c .before .before .before .before .before .before .before .before .before .before in
+    let s = k .before .before .before .before .before .before .before .before .args in
     let cs = s .counts .now in
     let n = length (s .kinds .now) in
     let es = lent n 0 (s .kinds .now) (s .options .now) (s .days .now) (s .amounts .now) in
@@ -29,7 +30,8 @@ returns c =
     rw (length-lent n 0 (s .kinds .now) (s .options .now) (s .days .now) (s .amounts .now))
     (c .before .before .put-records .ensures
     ∙ sets-then t (body es) o1 o2 8 (base (length cs)) (c .before .before .before .before .before .before .put-table .ensures) q
-    ∙ sets-then head (t ++ body es) (s .out .now) o1 0 8 (c .before .before .before .before .before .before .before .before .before .before .put-entry .ensures) r
+    ∙ sets-then head (t ++ body es) (s .out .now) o1 0 8
+    (c .before .before .before .before .before .before .before .before .before .before .put-entry .ensures) r
     ∙ rw append-assoc)
 
 pub put-book-spec : {M : Type 1} → statement M

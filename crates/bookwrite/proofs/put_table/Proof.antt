@@ -14,7 +14,8 @@ use Rattle.bookwrite.proofs.put_table.Statement.{statement}
 use Rattle.bookwrite.proofs.put_table.Tie as tie
 
 abbrev Inv-loop : tie.InvT-loop
-Inv-loop counts out₀ first₀ at₀ i₀ out first at i = (sets out at (accountTable first (drop i counts)) ≡ sets out₀ 8 (accountTable (base (length counts)) counts))
+Inv-loop counts out₀ first₀ at₀ i₀ out first at i =
+    (sets out at (accountTable first (drop i counts)) ≡ sets out₀ 8 (accountTable (base (length counts)) counts))
     × (at ≡ 8 + 8 * i) × (i ≤ length counts) × (first ≤ 8 + 8 * length counts + 68719476736 * i) × (length out ≡ length out₀)
 
 abbrev μ-loop : tie.MeasureT-loop

@@ -21,7 +21,12 @@ returns : tie.Need-returns
 returns c = simp (sym (c .before .sizes-fine .ensures) ∙ not-true _ (c .if1 .taken))
 
 returns-2 : tie.Need-returns-2
-returns-2 c = simp (sym (c .before .before .before .sizes-fine .ensures) ∙ not-false _ (c .before .before .if1 .left), sym (c .before .kinds-fine .ensures) ∙ not-true _ (c .if2 .taken))
+returns-2 c =
+    simp (
+      sym (c .before .before .before .sizes-fine .ensures) ∙ not-false _ (c .before .before .if1 .left),
+      sym (c .before .kinds-fine .ensures)
+          ∙ not-true _ (c .if2 .taken),
+    )
 
 add-if3 : tie.Need-add-if3
 add-if3 c = omega (arith, fits (c .before .before))

@@ -9,7 +9,8 @@ use Rattle.collection.proofs.step.Tie as tie
 returns : tie.Need-returns
 returns c =
     let s = c .before .before .before .before .before .before .before in
-    c .before .before .lapse .ensures ∙ sym (collection-other (collectionOn (s .args .w .now)) (s .args .e) (s .args .arrears) (omega (arith, c .before .before .before .before .if1 .taken)))
+    c .before .before .lapse .ensures
+    ∙ sym (collection-other (collectionOn (s .args .w .now)) (s .args .e) (s .args .arrears) (omega (arith, c .before .before .before .before .if1 .taken)))
 
 pub step-spec : {M : Type 1} → statement M
 step-spec =

@@ -12,7 +12,8 @@ after-requires c κs =
 returns : tie.Need-returns
 returns c =
     let s = c .before .before .before .before .before .before .before .before in
-    c .before .before .store .ensures ∙ (c .before .before .before .before .after .ensures ∙ ap (λ d. depositAfter d (s .args .e)) (c .before .before .before .before .before .load .ensures))
+    c .before .before .store .ensures
+    ∙ (c .before .before .before .before .after .ensures ∙ ap (λ d. depositAfter d (s .args .e)) (c .before .before .before .before .before .load .ensures))
 
 pub change-spec : {M : Type 1} → statement M
 change-spec =

@@ -13,7 +13,8 @@ use Rattle.ledger.proofs.arrears.Tie as tie
 abbrev Inv-loop : tie.InvT-loop
 Inv-loop w t p made k₀ below₀ sum₀ k below sum =
     (sum ≤ largest)
-    × (min (sum + sumOf (due p t) (itemsFrom (made - k) k below (drop 6 w))) largest ≡ min (sumOf (due p t) (itemsFrom (made - k₀) k₀ below₀ (drop 6 w))) largest)
+    × (min (sum + sumOf (due p t) (itemsFrom (made - k) k below (drop 6 w))) largest
+    ≡ min (sumOf (due p t) (itemsFrom (made - k₀) k₀ below₀ (drop 6 w))) largest)
 
 abbrev μ-loop : tie.MeasureT-loop
 μ-loop w t p made k₀ below₀ sum₀ k below sum = made - k
@@ -43,7 +44,8 @@ returns c =
     let l = c .before .loop in
     let q = c .before .before .before .before .before in
     let a = q .before .before .args in
-    sum-done (due (q .credits .result) (a .t)) (getD (a .w .now) 3 0) (l .k) (l .below) (l .sum) _ (drop 6 (a .w .now)) (c .loop-test .left) (l .inv .0) (l .inv .1)
+    sum-done (due (q .credits .result) (a .t)) (getD (a .w .now) 3 0) (l .k) (l .below) (l .sum) _ (drop 6 (a .w .now)) (c .loop-test .left)
+    (l .inv .0) (l .inv .1)
     ∙ rw (q .credits .ensures)
 
 pub arrears-spec : {M : Type 1} → statement M

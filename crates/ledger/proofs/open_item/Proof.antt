@@ -20,7 +20,14 @@ returns-2 c =
     let k = c .before .before .before in
     let q = k .before .before .before in
     let a = q .before .before .before .before .before .args in
-    rw (c .unpaid .ensures, c .before .credits .ensures, c .before .before .minus-or-zero2 .ensures, k .sum-before .ensures, k .before .upto-of .ensures, k .before .before .day-of .ensures)
+    rw (
+      c .unpaid .ensures,
+      c .before .credits .ensures,
+      c .before .before .minus-or-zero2 .ensures,
+      k .sum-before .ensures,
+      k .before .upto-of .ensures,
+      k .before .before .day-of .ensures,
+    )
     (open-at (ledgerOn (a .w .now)) (a .i) (rw (q .before .minus-or-zero .ensures) at (q .if1 .left)))
 
 pub open-item-spec : {M : Type 1} → statement M

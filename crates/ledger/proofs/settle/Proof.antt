@@ -4,7 +4,8 @@ use Rattle.ledger.proofs.settle.Statement.{statement}
 use Rattle.ledger.proofs.settle.Tie as tie
 
 returns : tie.Need-returns
-returns c = marks (c .before .before .before .args .w .now) (c .before .before .before .pre) (c .first-open .result .closed) (c .first-open .result .below) (c .first-open .ensures)
+returns c = marks (c .before .before .before .args .w .now) (c .before .before .before .pre) (c .first-open .result .closed) (c .first-open .result .below)
+    (c .first-open .ensures)
 
 pub settle-spec : {M : Type 1} → statement M
 settle-spec =

@@ -28,7 +28,8 @@ returns-2 c =
     let s = q .before .before .before .before in
     let a = s .args in
     c .before .before .pay-out .ensures
-    ∙ sym (on-payout (ledgerOn (a .w .now)) (a .e) (a .adds) (a .charge) (a .credit) (s .pre .1 .1 .one) (q .before .before .if1 .left) (s .pre .1 .0) (q .if2 .taken))
+    ∙ sym (on-payout (ledgerOn (a .w .now)) (a .e) (a .adds) (a .charge) (a .credit) (s .pre .1 .1 .one) (q .before .before .if1 .left) (s .pre .1 .0)
+    (q .if2 .taken))
 
 returns-3 : tie.Need-returns-3
 returns-3 c =
@@ -43,7 +44,8 @@ returns-4 c =
     let q = c .before in
     let s = q .before .before .before .before in
     let a = s .args in
-    sym (on-other (ledgerOn (a .w .now)) (a .e) (a .adds) (a .charge) (a .credit) (s .pre .1 .1 .one) (q .before .before .if1 .left) (s .pre .1 .0) (q .if2 .left) (omega (arith, c .if3 .left)))
+    sym (on-other (ledgerOn (a .w .now)) (a .e) (a .adds) (a .charge) (a .credit) (s .pre .1 .1 .one) (q .before .before .if1 .left) (s .pre .1 .0)
+    (q .if2 .left) (omega (arith, c .if3 .left)))
 
 pub step-spec : {M : Type 1} → statement M
 step-spec =

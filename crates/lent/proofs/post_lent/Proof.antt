@@ -15,4 +15,5 @@ pub post-lent-spec : {M : Type 1} → statement M
 unfolding code.routine
 post-lent-spec 𝓤 H 𝓜 𝓖 𝓡 =
     calling 𝓤 H 𝓜 𝓡 code.env #post-lent code.function (code.unfolded 𝓤 H 𝓜 𝓡) post.name post.routine code.calls-account·Account·post _ _ (known.met 𝓤 H 𝓜 𝓖 𝓡)
-    (meets accountData eventData answerData both account-laws event-laws answer-laws both-laws post.name posted 𝓤 H (𝓖 .A) (givenOf 𝓤 H 𝓜 𝓖) (own.clauses 𝓤 H (𝓖 .A) (𝓜 .mem) (𝓡 .run)) refl)
+    (meets accountData eventData answerData both account-laws event-laws answer-laws both-laws post.name posted 𝓤 H (𝓖 .A) (givenOf 𝓤 H 𝓜 𝓖)
+    (own.clauses 𝓤 H (𝓖 .A) (𝓜 .mem) (𝓡 .run)) refl)

@@ -8,7 +8,9 @@ part-load-end : tie.Need-part-load-end
 part-load-end c = omega (arith, size-of _ (c .before .passes .ensures) (c .if1 .taken))
 
 returns : tie.Need-returns
-returns c = asked-yes _ _ _ (c .before .before .before .before .passes .ensures) (c .before .before .before .if1 .taken) (rw (c .service .ensures, c .before .load .ensures))
+returns c =
+    asked-yes _ _ _ (c .before .before .before .before .passes .ensures) (c .before .before .before .if1 .taken)
+    (rw (c .service .ensures, c .before .load .ensures))
 
 returns-2 : tie.Need-returns-2
 returns-2 c = asked-no _ _ _ (c .before .passes .ensures) (c .if1 .left)

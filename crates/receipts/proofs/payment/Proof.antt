@@ -9,7 +9,12 @@ returns c =
     let known = lessened .before in
     let placed = known .before in
     let a = placed .before .before .before .args in
-    rw (c .select64 .ensures, lessened .minus-or-zero .ensures, known .within .ensures, read (a .w .now) (a .receipt) (placed .place .result) (placed .place .ensures))
+    rw (
+      c .select64 .ensures,
+      lessened .minus-or-zero .ensures,
+      known .within .ensures,
+      read (a .w .now) (a .receipt) (placed .place .result) (placed .place .ensures),
+    )
 
 pub payment-spec : {M : Type 1} → statement M
 payment-spec =

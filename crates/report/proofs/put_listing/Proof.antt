@@ -24,7 +24,8 @@ unfolding listing
 returns c =
     let s = c .before .before .before .before .before .before .before .before .before .before .before in
     let a = c .before .before .before .before .before .before .put-bytes in
-    put-then heading (linesOf 0 (decode (s .args .b .now))) (s .args .out .now) (a .last .0) _ 0 (a .result) _ (a .ensures) (c .before .before .put-lines .ensures)
+    put-then heading (linesOf 0 (decode (s .args .b .now))) (s .args .out .now) (a .last .0) _ 0 (a .result) _ (a .ensures)
+    (c .before .before .put-lines .ensures)
 
 pub put-listing-spec : {M : Type 1} → statement M
 put-listing-spec =

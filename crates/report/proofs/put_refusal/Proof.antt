@@ -20,7 +20,8 @@ put-number-requires c κs =
     let s = c .before .before .before .before .before .before .before .before .before .args in
     let a = c .before .before .before .put-bytes in
     let w = c .before .before .before .before .before .before .before .width in
-    room-then (ascii "book refused ") (decimal (s .n) ++ (10 ∷ [])) (s .out .now) (a .last .0) 0 (a .result) (omega (arith, refused-length (s .n), w .ensures .0)) (a .ensures)
+    room-then (ascii "book refused ") (decimal (s .n) ++ (10 ∷ [])) (s .out .now) (a .last .0) 0 (a .result)
+    (omega (arith, refused-length (s .n), w .ensures .0)) (a .ensures)
 
 returns-2 : tie.Need-returns-2
 unfolding refusedText
@@ -29,7 +30,8 @@ returns-2 c =
     let a = c .before .before .before .before .before .before .put-bytes in
     let w = c .before .before .before .before .before .before .before .before .before .before .width in
     written (refusedText (s .n)) (s .out .now) _ _ (omega (arith, refused-length (s .n), w .ensures .0))
-    (put-then (ascii "book refused ") (decimal (s .n) ++ (10 ∷ [])) (s .out .now) (a .last .0) _ 0 (a .result) _ (a .ensures) (c .before .before .put-number .ensures))
+    (put-then (ascii "book refused ") (decimal (s .n) ++ (10 ∷ [])) (s .out .now) (a .last .0) _ 0 (a .result) _ (a .ensures)
+    (c .before .before .put-number .ensures))
 
 pub put-refusal-spec : {M : Type 1} → statement M
 put-refusal-spec =

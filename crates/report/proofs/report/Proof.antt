@@ -13,7 +13,8 @@ returns : tie.Need-returns
 returns c =
     let b = c .before .before .before .before .before .before .before .before .args .b .now in
     let n = c .before .before .before .before .before .book-refusal in
-    let f : textBy (bookRefusal b) b ≡ refusedText (n .result) = sym (ap (λ k. textBy k b) (n .ensures)) ∙ refused-as (n .result) b (c .before .before .before .before .if1 .taken) in
+    let f : textBy (bookRefusal b) b ≡ refusedText (n .result) = sym (ap (λ k. textBy k b) (n .ensures))
+    ∙ refused-as (n .result) b (c .before .before .before .before .if1 .taken) in
     rw f (c .before .before .put-refusal .ensures)
 
 get-requires : tie.Need-get-requires
@@ -47,7 +48,8 @@ returns-3 : tie.Need-returns-3
 returns-3 c =
     let s = c .before .before .before .before .before .before .before .before .before .before .before .args in
     let b = s .b .now in
-    let z : bookRefusal b ≡ 0 = sym (c .before .before .before .before .before .before .before .before .book-refusal .ensures) ∙ c .before .before .before .before .before .before .before .if1 .left in
+    let z : bookRefusal b ≡ 0 = sym (c .before .before .before .before .before .before .before .before .book-refusal .ensures)
+    ∙ c .before .before .before .before .before .before .before .if1 .left in
     let f : textBy (bookRefusal b) b ≡ listing b = ap (λ k. textBy k b) z in
     rw f (written (listing b) (s .out .now) _ _ (ltb-false _ _ (sym (c .before .before .before .before .before .is-short .ensures)
     ∙ c .before .before .before .before .if2 .left)) (c .before .before .put-listing .ensures))

@@ -3,7 +3,8 @@ use Rattle.report.proofs.standing_in.Statement.{statement}
 use Rattle.report.proofs.standing_in.Tie as tie
 
 returns : tie.Need-returns
-returns c = rw (c .service .ensures, c .before .load2 .ensures, c .before .before .before .load .ensures, c .before .before .before .before .before .sums-of .ensures)
+returns c =
+    rw (c .service .ensures, c .before .load2 .ensures, c .before .before .before .load .ensures, c .before .before .before .before .before .sums-of .ensures)
 
 pub standing-in-spec : {M : Type 1} → statement M
 standing-in-spec =

@@ -1,6 +1,21 @@
 use mathlib.Core.Path.{_∙_}
 use borrow.Author.Needs.{needs}
-use Rattle.table.proofs.ByKind.{of-bill, of-payment, of-returned, of-asked, of-paid, of-moved, of-payout, of-arrangement, of-notice, of-call, of-disconnection, of-reconnection, of-closing, of-none}
+use Rattle.table.proofs.ByKind.{
+  of-bill,
+  of-payment,
+  of-returned,
+  of-asked,
+  of-paid,
+  of-moved,
+  of-payout,
+  of-arrangement,
+  of-notice,
+  of-call,
+  of-disconnection,
+  of-reconnection,
+  of-closing,
+  of-none,
+}
 use Rattle.table.proofs.from_row5.Statement.{statement}
 use Rattle.table.proofs.from_row5.Tie as tie
 

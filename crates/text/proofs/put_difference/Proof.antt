@@ -30,7 +30,8 @@ same-length : tie.Need-same-length
 same-length c =
     let a = c .before .before .before .before .before .before .args in
     let n = c .before .before .put-number in
-    ap length (n .ensures .bytes) ∙ length-sets (set (a .out .now) (a .p) 45) (a .p + 1) (decimal (a .b - a .a) ++ (a .mark ∷ [])) ∙ length-set (a .out .now) (a .p) 45
+    ap length (n .ensures .bytes) ∙ length-sets (set (a .out .now) (a .p) 45) (a .p + 1) (decimal (a .b - a .a) ++ (a .mark ∷ []))
+    ∙ length-set (a .out .now) (a .p) 45
 
 returns : tie.Need-returns
 returns c =

@@ -20,8 +20,12 @@ loop-again c =
     let l = c .before .loop in
     let a = c .before .before .args in
     let e : l .left ≡ suc (l .left - 1) = omega arith in
-    let q : a .p + (l .left - 1) ≡ a .p + length (digits (l .left - 1) (l .rest / 10)) = rw (length-digits (l .left - 1) (l .rest / 10)) in
-    (sets-last (digits (l .left - 1) (l .rest / 10)) (l .out) (a .p) (a .p + (l .left - 1)) (48 + l .rest % 10) q ∙ (rw e at (l .inv .0)), omega arith, search needs)
+    let q : a .p + (l .left - 1) ≡ a .p + length (digits (l .left - 1) (l .rest / 10)) = rw (length-digits (l .left - 1) (l .rest / 10)) in (
+      sets-last (digits (l .left - 1) (l .rest / 10)) (l .out) (a .p) (a .p + (l .left - 1)) (48 + l .rest % 10) q
+          ∙ (rw e at (l .inv .0)),
+      omega arith,
+      search needs,
+    )
 
 returns : tie.Need-returns Inv-loop μ-loop
 returns c =

@@ -10,7 +10,8 @@ unfolding stateOk
 returns c =
     let k = c .before .before in
     let l = k .before in
-    let q = rw (k .ok .ensures, l .load .ensures, l .before .before .word2 .ensures, l .before .before .before .before .word .ensures) at (c .before .if1 .taken) in
+    let q = rw (k .ok .ensures, l .load .ensures, l .before .before .word2 .ensures, l .before .before .before .before .word .ensures) at
+    (c .before .if1 .taken) in
     c .file-ok .ensures ∙ first-passes _ _ q
 
 returns-2 : tie.Need-returns-2
@@ -18,11 +19,13 @@ unfolding stateOk
 returns-2 c =
     let k = c .before in
     let l = k .before in
-    first-fails _ _ (rw (k .ok .ensures, l .load .ensures, l .before .before .word2 .ensures, l .before .before .before .before .word .ensures) at (c .if1 .left))
+    first-fails _ _
+    (rw (k .ok .ensures, l .load .ensures, l .before .before .word2 .ensures, l .before .before .before .before .word .ensures) at (c .if1 .left))
 
 pub ok-spec : {M : Type 1} → statement M
 ok-spec =
     tie.close
     (tie.spec (λ c. search needs) (λ c. search needs) (λ c. search needs) (λ c κs. search needs) (λ c. search needs)
-    (λ c. search needs) (λ c. search needs) (λ c κs. search needs) (λ c. search needs) (λ c. search needs) (λ c. search needs) (λ c κs. search needs) (λ c κs. search needs) (λ c κs. search needs) returns
+    (λ c. search needs) (λ c. search needs) (λ c κs. search needs) (λ c. search needs) (λ c. search needs) (λ c. search needs) (λ c κs. search needs)
+    (λ c κs. search needs) (λ c κs. search needs) returns
     returns-2)

@@ -8,7 +8,13 @@ returns : tie.Need-returns
 returns c =
     let l = c .before .before .before .before in
     let s = l .before .before .before in
-    rw (c .view-of .ensures, c .before .service .ensures, c .before .before .money-for .ensures, c .before .before .before .debts-for .ensures, l .load .ensures)
+    rw (
+      c .view-of .ensures,
+      c .before .service .ensures,
+      c .before .before .money-for .ensures,
+      c .before .before .before .debts-for .ensures,
+      l .load .ensures,
+    )
     (seen-is (stateOn (s .args .m .now)) (s .args .e))
 
 pub seen-spec : {M : Type 1} → statement M

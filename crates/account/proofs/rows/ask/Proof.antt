@@ -14,7 +14,8 @@ returns c =
     let f = v .before in
     let s = f .before .before .before .before in
     let a = s .args in
-    rows-asked (a .m .now) (a .e) (s .pre) (f .before .word .result) (f .first-row .result) (v .seen .result) (h .charge .result) (r .refusal .result) (c .select8 .result)
+    rows-asked (a .m .now) (a .e) (s .pre) (f .before .word .result) (f .first-row .result) (v .seen .result) (h .charge .result) (r .refusal .result)
+    (c .select8 .result)
     (f .before .word .ensures) (f .first-row .ensures) (v .seen .ensures) (h .charge .ensures) (r .refusal .ensures) (c .select8 .ensures)
 
 pub ask-spec : {M : Type 1} → statement M

@@ -7,8 +7,12 @@ use Rattle.account.proofs.step.apply.Tie as tie
 keep-file-requires : tie.Need-keep-file-requires
 keep-file-requires c κs =
     let k = c .before .before .before in
-    let s = k .before .before .before in
-    (k .move-money .ensures .words-are, deposit-still (s .args .m .now) (k .move-money .last .0) (s .args .e) (s .args .v) (k .move-money .ensures) (s .pre .fit .fit .deposit-fit), s .pre .well)
+    let s = k .before .before .before in (
+      k .move-money .ensures .words-are,
+      deposit-still (s .args .m .now) (k .move-money .last .0) (s .args .e) (s .args .v) (k .move-money .ensures)
+          (s .pre .fit .fit .deposit-fit),
+      s .pre .well,
+    )
 
 returns : tie.Need-returns
 returns c =
@@ -18,8 +22,13 @@ returns c =
     let k = f .before .before .before .before in
     let s = k .before .before .before in
     let a = s .args in
-    let b = steps-are (a .m .now) (k .move-money .last .0) (f .keep-file .last .0) (x .set-service .last .0) (a .e) (a .v) (k .move-money .ensures) (f .keep-file .ensures) (x .set-service .ensures) in
-    record { became = b; receipt-is = c .select64 .ensures ∙ receipt-by (a .m .now) (x .set-service .last .0) (a .e) (a .v) (n .count .result) b (n .count .ensures) }
+    let b = steps-are (a .m .now) (k .move-money .last .0) (f .keep-file .last .0) (x .set-service .last .0) (a .e) (a .v) (k .move-money .ensures)
+    (f .keep-file .ensures) (x .set-service .ensures) in
+    record {
+      became = b;
+      receipt-is = c .select64 .ensures
+          ∙ receipt-by (a .m .now) (x .set-service .last .0) (a .e) (a .v) (n .count .result) b (n .count .ensures);
+    }
 
 pub apply-spec : {M : Type 1} → statement M
 apply-spec =

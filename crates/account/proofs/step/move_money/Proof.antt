@@ -32,7 +32,8 @@ step-requires-3 c κs =
     let s = s1 .before .before .before .before .before in
     let a = s .args in (
       search needs,
-      rw (arrangement-still (a .m .now) (s .pre .fit .words-are) (a .e) (s1 .step .last .0) (search needs) (s2 .step2 .last .0) (search needs)) (s .pre .fit .fit .arrangement-fit),
+      rw (arrangement-still (a .m .now) (s .pre .fit .words-are) (a .e) (s1 .step .last .0) (search needs) (s2 .step2 .last .0) (search needs))
+          (s .pre .fit .fit .arrangement-fit),
       s .pre .well,
       passing-room (a .m .now) (a .e) (a .v) (a .charge) (s .pre) .payment-room,
     )
@@ -45,7 +46,8 @@ returns c =
     let k = s1 .before .before in
     let s = k .before .before .before in
     let a = s .args in
-    money-by (a .m .now) (s .pre .fit .words-are) (a .e) (s1 .step .last .0) (search needs) (s2 .step2 .last .0) (search needs) (s3 .step3 .last .0) (a .v) (search needs)
+    money-by (a .m .now) (s .pre .fit .words-are) (a .e) (s1 .step .last .0) (search needs) (s2 .step2 .last .0) (search needs) (s3 .step3 .last .0)
+    (a .v) (search needs)
     (s1 .step .ensures ∙ rw (k .credit .ensures, k .before .charges .ensures, charge-exact (a .m .now) (a .e) (a .v) (a .charge) (s .pre)))
     (s2 .step2 .ensures)
     (s3 .step3 .ensures)

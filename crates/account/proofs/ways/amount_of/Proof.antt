@@ -14,7 +14,8 @@ returns c =
     let u = c .before .before .before in
     let t = u .before .before in
     let s = t .before .before .before in
-    rw (c .plus .ensures, c .before .late-charge .ensures, c .before .before .minus-or-zero .ensures, u .sums-of .ensures) (bill-amount (stateOn (s .args .m .now)) (s .args .e) (t .if1 .taken))
+    rw (c .plus .ensures, c .before .late-charge .ensures, c .before .before .minus-or-zero .ensures, u .sums-of .ensures)
+    (bill-amount (stateOn (s .args .m .now)) (s .args .e) (t .if1 .taken))
 
 returns-2 : tie.Need-returns-2
 returns-2 c =

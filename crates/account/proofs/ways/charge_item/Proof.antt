@@ -20,7 +20,8 @@ returns c =
     let s1 = x .before .before .before .before in
     let s = s1 .before .before .before in
     let a = s .args in
-    item-applied (a .m .now) (a .e) (s .pre .0) (s .pre .1) (a .charge) (s .pre .2) (s1 .step .last .0) (x .pass-day .last .0) (search needs) (s1 .step .ensures) (x .pass-day .ensures)
+    item-applied (a .m .now) (a .e) (s .pre .0) (s .pre .1) (a .charge) (s .pre .2) (s1 .step .last .0) (x .pass-day .last .0) (search needs)
+    (s1 .step .ensures) (x .pass-day .ensures)
 
 pub charge-item-spec : {M : Type 1} → statement M
 charge-item-spec =

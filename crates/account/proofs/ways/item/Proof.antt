@@ -7,8 +7,11 @@ charge-item-requires : tie.Need-charge-item-requires
 charge-item-requires c κs =
     let n = c .before .before in
     let f = n .before .before .before .before in
-    let s = f .before .before .before .before .before in
-    (now-free _ _ (s .pre .0) _ _ _ (f .before .word .ensures) (f .first-row .ensures) (n .item-row .ensures) (c .before .if1 .taken), s .pre .1, n .before .before .amount-of .ensures)
+    let s = f .before .before .before .before .before in (
+      now-free _ _ (s .pre .0) _ _ _ (f .before .word .ensures) (f .first-row .ensures) (n .item-row .ensures) (c .before .if1 .taken),
+      s .pre .1,
+      n .before .before .amount-of .ensures,
+    )
 
 returns : tie.Need-returns
 returns c =
@@ -16,7 +19,8 @@ returns c =
     let n = p .before .before .before in
     let f = n .before .before .before .before in
     let s = f .before .before .before .before .before in
-    way-judged _ _ (s .pre .0) _ _ _ (f .before .word .ensures) (f .first-row .ensures) (n .item-row .ensures) (p .before .before .if1 .taken) _ _ (p .charge-item .ensures)
+    way-judged _ _ (s .pre .0) _ _ _ (f .before .word .ensures) (f .first-row .ensures) (n .item-row .ensures) (p .before .before .if1 .taken) _ _
+    (p .charge-item .ensures)
 
 returns-2 : tie.Need-returns-2
 returns-2 c =

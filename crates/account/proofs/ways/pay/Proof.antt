@@ -12,7 +12,8 @@ returns c =
     let s = k .before .before .before in
     let a = s .args in
     let v = view (stateOn (a .m .now)) (a .e) in
-    let b = way-is (a .m .now) (k .take-payment .last .0) (x .pass-day .last .0) (a .e) v (omega (arith, s .pre .1)) (k .take-payment .ensures) (x .pass-day .ensures) in
+    let b = way-is (a .m .now) (k .take-payment .last .0) (x .pass-day .last .0) (a .e) v (omega (arith, s .pre .1)) (k .take-payment .ensures)
+    (x .pass-day .ensures) in
     record { became = b; receipt-is = payment-receipt (a .m .now) (x .pass-day .last .0) (a .e) v (c .count .result) (s .pre .1) b (c .count .ensures) }
 
 pub pay-spec : {M : Type 1} → statement M

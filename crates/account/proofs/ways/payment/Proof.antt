@@ -16,7 +16,8 @@ returns c =
     let n = p .before .before .before in
     let f = n .before .before in
     let s = f .before .before .before .before .before in
-    way-judged _ _ (s .pre .0) _ _ _ (f .before .word .ensures) (f .first-row .ensures) (n .credit-row .ensures) (p .before .before .if1 .taken) _ _ (p .pay .ensures)
+    way-judged _ _ (s .pre .0) _ _ _ (f .before .word .ensures) (f .first-row .ensures) (n .credit-row .ensures) (p .before .before .if1 .taken) _ _
+    (p .pay .ensures)
 
 returns-2 : tie.Need-returns-2
 returns-2 c =

@@ -42,7 +42,8 @@ returns c =
     let s1 = s2 .before .before .before .before in
     let s = s1 .before .before .before in
     let a = s .args in
-    payment-by (a .m .now) (s .pre .0 .fit .words-are) (a .e) (s .pre .1) (s1 .step .last .0) (search needs) (s2 .step2 .last .0) (search needs) (s3 .step3 .last .0) (search needs)
+    payment-by (a .m .now) (s .pre .0 .fit .words-are) (a .e) (s .pre .1) (s1 .step .last .0) (search needs) (s2 .step2 .last .0) (search needs)
+    (s3 .step3 .last .0) (search needs)
     (s1 .step .ensures)
     (s2 .step2 .ensures)
     (s3 .step3 .ensures)

@@ -9,7 +9,8 @@ returns : tie.Need-returns
 returns c =
     let k = c .before .before .before in
     let s = k .before .before in
-    answer-accepted (stateOn (s .args .m .now)) (s .args .e) (c .receipt .result) (sym (k .ask .ensures .number-is) ∙ c .before .if1 .taken) (c .receipt .ensures)
+    answer-accepted (stateOn (s .args .m .now)) (s .args .e) (c .receipt .result) (sym (k .ask .ensures .number-is) ∙ c .before .if1 .taken)
+    (c .receipt .ensures)
 
 returns-2 : tie.Need-returns-2
 returns-2 c =

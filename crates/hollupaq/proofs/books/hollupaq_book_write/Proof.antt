@@ -11,7 +11,8 @@ returns c =
     let w = c .before .before .before .before in
     let s = w .before .before .before .before .before .before .before .before .args in
     let e = c .before .number .ensures in
-    rw e (stored-not (s .counts .now) (s .kinds .now) (s .options .now) (s .days .now) (s .amounts .now) (s .out .now) _ _ (w .write .ensures .0) (rw e at (c .if1 .taken)))
+    rw e (stored-not (s .counts .now) (s .kinds .now) (s .options .now) (s .days .now) (s .amounts .now) (s .out .now) _ _ (w .write .ensures .0)
+    (rw e at (c .if1 .taken)))
 
 -- the list was written, so its sizes are small
 sizes : (c : tie.Else1) → (let s = c .before .before .before .before .before .before .before .before .before .before .before .before .args in Sizes
@@ -19,7 +20,8 @@ sizes : (c : tie.Else1) → (let s = c .before .before .before .before .before .
 sizes c =
     let w = c .before .before .before .before in
     let s = w .before .before .before .before .before .before .before .before .args in
-    stored-sizes (s .counts .now) (s .kinds .now) (s .options .now) (s .days .now) (s .amounts .now) (s .out .now) _ _ (w .write .ensures .0) (sym (c .before .number .ensures) ∙ c .if1 .left)
+    stored-sizes (s .counts .now) (s .kinds .now) (s .options .now) (s .days .now) (s .amounts .now) (s .out .now) _ _ (w .write .ensures .0)
+    (sym (c .before .number .ensures) ∙ c .if1 .left)
 
 add-result : tie.Need-add-result
 add-result c = omega (arith, sizes c)
@@ -37,7 +39,8 @@ returns-2 : tie.Need-returns-2
 returns-2 c =
     let w = c .before .before .before .before in
     let s = w .before .before .before .before .before .before .before .before .args in
-    stored (s .counts .now) (s .kinds .now) (s .options .now) (s .days .now) (s .amounts .now) (s .out .now) _ _ (w .write .ensures .0) (sym (c .before .number .ensures) ∙ c .if1 .left)
+    stored (s .counts .now) (s .kinds .now) (s .options .now) (s .days .now) (s .amounts .now) (s .out .now) _ _ (w .write .ensures .0)
+    (sym (c .before .number .ensures) ∙ c .if1 .left)
 
 pub hollupaq-book-write-spec : {M : Type 1} → statement M
 hollupaq-book-write-spec =

@@ -9,7 +9,8 @@ word-of-requires : tie.Need-word-of-requires
 word-of-requires c κs =
     let p = c .before .before in
     let a = p .before .before .before .args in
-    rw (p .post-at .ensures .answer-is) (receipt-small-at (a .i) (a .accounts .now) (record { kind = a .kind; option = a .option; day = a .day; amount = a .amount }))
+    rw (p .post-at .ensures .answer-is)
+    (receipt-small-at (a .i) (a .accounts .now) (record { kind = a .kind; option = a .option; day = a .day; amount = a .amount }))
 
 returns : tie.Need-returns
 returns c =

@@ -10,7 +10,8 @@ end-of-requires : tie.Need-end-of-requires
 end-of-requires c κs = λ q. ranged certificate (c .args .e) (c .pre .in-range) (eqb-true _ _ q) .amount-high
 
 end-of-requires-2 : tie.Need-end-of-requires-2
-end-of-requires-2 c κs = λ q. let a = ranged approval (c .before .before .args .e) (c .before .before .pre .in-range) (eqb-true _ _ q) .amount-high in omega arith
+end-of-requires-2 c κs = λ q. let a =
+    ranged approval (c .before .before .args .e) (c .before .before .pre .in-range) (eqb-true _ _ q) .amount-high in omega arith
 
 returns : tie.Need-returns
 returns c = cc

@@ -32,7 +32,8 @@ put-number-requires-2 c κs =
     let z = followed (decimal (s .s .held)) 32 in
     let a = c .before .before .before .before .before .before .before .put-number in
     let b = c .before .before .before .put-difference in
-    room-then y z (a .last .0) (b .last .0) (a .result) (b .result) (room-then x (y ++ z) (s .out .now) (a .last .0) (s .p) (a .result) (search needs) (a .ensures)) (b .ensures)
+    room-then y z (a .last .0) (b .last .0) (a .result) (b .result)
+    (room-then x (y ++ z) (s .out .now) (a .last .0) (s .p) (a .result) (search needs) (a .ensures)) (b .ensures)
 
 returns : tie.Need-returns
 returns c =
@@ -43,7 +44,8 @@ returns c =
     let a = c .before .before .before .before .before .before .before .before .before .before .put-number in
     let b = c .before .before .before .before .before .before .put-difference in
     let d = c .before .before .put-number2 in
-    put-then x (y ++ z) (s .out .now) (a .last .0) _ (s .p) (a .result) _ (a .ensures) (put-then y z (a .last .0) (b .last .0) _ (a .result) (b .result) _ (b .ensures) (d .ensures))
+    put-then x (y ++ z) (s .out .now) (a .last .0) _ (s .p) (a .result) _ (a .ensures)
+    (put-then y z (a .last .0) (b .last .0) _ (a .result) (b .result) _ (b .ensures) (d .ensures))
 
 pub put-money-spec : {M : Type 1} → statement M
 put-money-spec =
