@@ -7,6 +7,7 @@ use crate::spans::LAST;
 use crate::spans::LEDGER;
 use crate::spans::RECEIPTS;
 use crate::spans::WORDS;
+use collection::CLOSED;
 use rules::Answer;
 use rules::Event;
 use rules::kinds::BILL;
@@ -22,9 +23,6 @@ ghost use Rattle.rules.specs.Table.{chargeOf, refusalBy};
 ghost use Rattle.account.specs.State.{accountSize, stateOn, Fit, view, moneyAfter, serviceAfter};
 ghost use Rattle.account.specs.Post.{Judges};
 ghost use Rattle.account.specs.Looks.{Became, Applied, Free, onlyItem};
-
-// The word of a closed service.
-const CLOSED: u64 = 2;
 
 // The day, and the notice, which can only lapse. The arrears are worked out only where there is one.
 fn pass_day(m: &mut [u64], e: Event)
