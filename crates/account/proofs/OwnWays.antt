@@ -41,7 +41,7 @@ use Rattle.arrangement.specs.Arrangement.{arrangementSize, arrangementOn, arran
 use Rattle.receipts.specs.Receipts.{Receipts, receiptsSize, receiptsOn, receiptsAfter}
 use Rattle.ledger.specs.Ledger.{ledgerSize, ledgerOn, creditsBy, arrearsBy, ledgerAfter, LedgerRoom}
 use Rattle.ledger.proofs.Test.{ledger-room}
-use Rattle.account.specs.State.{State, sizes, accountSize, stateOf, stateOn, Fit, view, moneyAfter, fileAfter, serviceAfter, applied}
+use Rattle.account.specs.State.{State, sizes, accountSize, stateOf, stateOn, Fit, view, withMoney, withFile, withService, moneyAfter, fileAfter, serviceAfter, applied}
 use Rattle.account.specs.Post.{receiptAt, Judges}
 use Rattle.account.specs.Looks.{Became, Applied, Free, onlyItem}
 use Rattle.account.proofs.Exits.{well-formed, refusal-first, refusal-view, judges-refused, judges-accepted}
@@ -116,18 +116,7 @@ pub item-low : (e : Event) → onlyItem e ≡ true → e .kind < depositAsked
 item-low e o = below-five e (either e o)
 
 file-other : (s : State) (e : Event) → concerns e ≡ false → (is certificate e || is approval e) ≡ false → fileAfter s e ≡ s
-file-other s e d m =
-    λ i.
-    record {
-      layout = s .layout;
-      last = s .last;
-      collection = s .collection;
-      deposit = deposit-other (s .deposit) e d i;
-      medical = sym (untouched (s .medical) e m) i;
-      arrangement = s .arrangement;
-      receipts = s .receipts;
-      ledger = s .ledger;
-    }
+file-other s e d m = λ i. withFile s (deposit-other (s .deposit) e d i) (sym (untouched (s .medical) e m) i)
 
 file-still : (s : State) (e : Event) → e .kind < depositAsked → fileAfter s e ≡ s
 file-still s e l =
@@ -159,22 +148,8 @@ module _ (m : List ℕ) (l : length m ≡ accountSize) (e : Event) (k : e .kind 
   quiet-by n =
       let t = then sizes 1 ys (omega arith) (ap length q) (here sizes m l) in
       let none : stateOn m .collection .notice .live ≡ 0 = eqb-true _ 0 (sym (ap (λ w. eqb (collectionOn w .notice .live) 0) collection-still) ∙ n) in
-      record {
-        words-are = t .words-are;
-        state-is =
-            ap stateOf (t .cuts)
-            ∙ (λ i.
-            record {
-              layout = stateOn m .layout;
-              last = getD (q i) 0 0;
-              collection = quiet-same (stateOn m .collection) e (arrearsBy (stateOn m .ledger) (e .day)) k none i;
-              deposit = stateOn m .deposit;
-              medical = stateOn m .medical;
-              arrangement = stateOn m .arrangement;
-              receipts = stateOn m .receipts;
-              ledger = stateOn m .ledger;
-            });
-      }
+      let same = quiet-same (stateOn m .collection) e (arrearsBy (stateOn m .ledger) (e .day)) k none in
+      record { words-are = t .words-are; state-is = ap stateOf (t .cuts) ∙ (λ i. withService (stateOn m) (getD (q i) 0 0) (same i)) }
 
   pub lapse-by : (ws : List ℕ) (due : ℕ) → length ws ≡ collectionSize
       → due ≡ arrearsBy (ledgerOn (part sizes 7 (back sizes 1 ys m))) (e .day)
@@ -188,22 +163,7 @@ module _ (m : List ℕ) (l : length m ≡ accountSize) (e : Event) (k : e .kind 
       ∙ (ap (λ w. lapsedBy (collectionOn w) due) collection-still
       ∙ (ap (lapsedBy (stateOn m .collection)) d2
       ∙ sym (collection-other (stateOn m .collection) e (arrearsBy (stateOn m .ledger) (e .day)) (omega (arith, k))))) in
-      record {
-        words-are = t .words-are;
-        state-is =
-            ap stateOf (t .cuts)
-            ∙ (λ i.
-            record {
-              layout = stateOn m .layout;
-              last = getD (q i) 0 0;
-              collection = p2 i;
-              deposit = stateOn m .deposit;
-              medical = stateOn m .medical;
-              arrangement = stateOn m .arrangement;
-              receipts = stateOn m .receipts;
-              ledger = stateOn m .ledger;
-            });
-      }
+      record { words-are = t .words-are; state-is = ap stateOf (t .cuts) ∙ (λ i. withService (stateOn m) (getD (q i) 0 0) (p2 i)) }
 
 -- ---- the money
 -- of a payment
@@ -284,22 +244,9 @@ module _ (m : List ℕ) (e : Event) (f : Free m e) (o : onlyItem e ≡ true) (n 
       → Became (back sizes 7 ws m) (moneyAfter (stateOn m) e looked)
   item-by ws a p =
       let t = then sizes 7 ws (omega arith) a (here sizes m (f .fit .words-are)) in
-      record {
-        words-are = t .words-are;
-        state-is =
-            ap stateOf (t .cuts)
-            ∙ (λ i.
-            record {
-              layout = stateOn m .layout;
-              last = stateOn m .last;
-              collection = stateOn m .collection;
-              deposit = stateOn m .deposit;
-              medical = stateOn m .medical;
-              arrangement = item-arranged (stateOn m .arrangement) e (looked .arrears) (looked .payment) (either e o) i;
-              receipts = item-receipted (stateOn m .receipts) e (either e o) i;
-              ledger = (p ∙ item-same) i;
-            });
-      }
+      let arranged = item-arranged (stateOn m .arrangement) e (looked .arrears) (looked .payment) (either e o) in
+      let receipted = item-receipted (stateOn m .receipts) e (either e o) in
+      record { words-are = t .words-are; state-is = ap stateOf (t .cuts) ∙ (λ i. withMoney (stateOn m) (arranged i) (receipted i) ((p ∙ item-same) i)) }
 
   pub item-applied : (ws c : List ℕ) → length ws ≡ ledgerSize → ledgerOn ws ≡ ledgerAfter (stateOn m .ledger) e true n 0
       → Became c (serviceAfter (stateOn (back sizes 7 ws m)) e)

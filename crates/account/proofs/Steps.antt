@@ -26,7 +26,7 @@ use Rattle.arrangement.specs.Arrangement.{arrangementSize, arrangementOn, arran
 use Rattle.receipts.specs.Receipts.{receiptsSize, receiptsOn, receiptsAfter}
 use Rattle.ledger.specs.Ledger.{ledgerSize, ledgerOn, arrearsBy, ledgerAfter, LedgerRoom}
 use Rattle.ledger.proofs.Test.{ledger-room}
-use Rattle.account.specs.State.{State, sizes, accountSize, stateOf, stateOn, view, moneyAfter, fileAfter, serviceAfter, applied}
+use Rattle.account.specs.State.{State, sizes, accountSize, stateOf, stateOn, view, withMoney, withFile, withService, moneyAfter, fileAfter, serviceAfter, applied}
 use Rattle.account.specs.Post.{receiptAt}
 use Rattle.account.specs.Looks.{Became, Passing}
 
@@ -67,19 +67,7 @@ module _ (m : List ℕ) (l : length m ≡ accountSize) (e : Event) where
           let r2 = r ∙ ap (λ w. arrangementAfter (arrangementOn w) e (v .arrears) (v .payment)) arrangement-still in
           record {
             words-are = t .words-are;
-            state-is =
-                ap stateOf (t .cuts)
-                ∙ (λ i.
-                record {
-                  layout = stateOn m .layout;
-                  last = stateOn m .last;
-                  collection = stateOn m .collection;
-                  deposit = stateOn m .deposit;
-                  medical = stateOn m .medical;
-                  arrangement = r2 i;
-                  receipts = q2 i;
-                  ledger = p i;
-                });
+            state-is = ap stateOf (t .cuts) ∙ (λ i. withMoney (stateOn m) (r2 i) (q2 i) (p i));
           }
 
   -- deposit and medical
@@ -93,19 +81,7 @@ module _ (m : List ℕ) (l : length m ≡ accountSize) (e : Event) where
       let q2 = q ∙ ap (λ cs. medicalAfter (medicalOn (getD cs 4 [])) e) (s .cuts) in
       record {
         words-are = t .words-are;
-        state-is =
-            ap stateOf (t .cuts)
-            ∙ (λ i.
-            record {
-              layout = stateOn m .layout;
-              last = stateOn m .last;
-              collection = stateOn m .collection;
-              deposit = p i;
-              medical = q2 i;
-              arrangement = stateOn m .arrangement;
-              receipts = stateOn m .receipts;
-              ledger = stateOn m .ledger;
-            });
+        state-is = ap stateOf (t .cuts) ∙ (λ i. withFile (stateOn m) (p i) (q2 i));
       }
 
   -- collection and the day
@@ -119,19 +95,7 @@ module _ (m : List ℕ) (l : length m ≡ accountSize) (e : Event) where
       let p2 = p ∙ (ap (collectionAfter (stateOn m .collection) e) d ∙ collection-watched (stateOn m .collection) e (arrearsBy (stateOn m .ledger) (e .day))) in
       record {
         words-are = t .words-are;
-        state-is =
-            ap stateOf (t .cuts)
-            ∙ (λ i.
-            record {
-              layout = stateOn m .layout;
-              last = getD (q i) 0 0;
-              collection = p2 i;
-              deposit = stateOn m .deposit;
-              medical = stateOn m .medical;
-              arrangement = stateOn m .arrangement;
-              receipts = stateOn m .receipts;
-              ledger = stateOn m .ledger;
-            });
+        state-is = ap stateOf (t .cuts) ∙ (λ i. withService (stateOn m) (getD (q i) 0 0) (p2 i));
       }
 
 -- ---- the three steps together
@@ -168,13 +132,7 @@ module _ (v : View) (e : Event) where
   unfolding applied
   applied-seen s =
       λ i.
-      serviceAfter (fileAfter (record {
-        layout = s .layout;
-        last = s .last;
-        collection = s .collection;
-        deposit = s .deposit;
-        medical = s .medical;
-        arrangement = arrangement-seen (s .arrangement) i;
-        receipts = receiptsAfter (s .receipts) e;
-        ledger = ledgerAfter (s .ledger) e (charges e) (charge-seen v e i) (credit-seen v e i);
-      }) e) e
+      serviceAfter (fileAfter (withMoney s
+      (arrangement-seen (s .arrangement) i)
+      (receiptsAfter (s .receipts) e)
+      (ledgerAfter (s .ledger) e (charges e) (charge-seen v e i) (credit-seen v e i))) e) e

@@ -8,19 +8,13 @@ use lib.Seq.{take-all}
 use Rattle.span.specs.Span.{joined}
 use Rattle.span.proofs.Law.{whole}
 use Rattle.span.proofs.Parts.{part, part-length, joined-cut, joined-length, Sized, cut-joined}
-use Rattle.collection.specs.Collection.{collectionWords}
 use Rattle.collection.proofs.Words.{collection-whole}
-use Rattle.deposit.specs.Deposit.{depositWords}
 use Rattle.deposit.proofs.Words.{deposit-whole}
-use Rattle.medical.specs.Medical.{medicalWords}
 use Rattle.medical.proofs.Words.{medical-whole}
-use Rattle.arrangement.specs.Arrangement.{arrangementWords}
 use Rattle.arrangement.proofs.Words.{arrangement-whole}
-use Rattle.receipts.specs.Receipts.{receiptsWords}
 use Rattle.receipts.proofs.Words.{receipts-whole}
-use Rattle.ledger.specs.Ledger.{ledgerWords}
 use Rattle.ledger.proofs.Words.{ledger-whole}
-use Rattle.account.specs.State.{State, sizes, accountSize, stateOf, stateOn, wordsOf}
+use Rattle.account.specs.State.{State, sizes, accountSize, stateOf, stateOn, spansOf, wordsOf}
 
 -- equal accounts are equal memory: the words of the account that memory is are the memory
 pub account-whole : (m : List ℕ) → length m ≡ accountSize → wordsOf (stateOn m) ≡ m
@@ -46,18 +40,6 @@ ringed-on m l =
       receipts-ring = rw length-drop (omega (arith, part-length sizes 6 m (omega arith) l));
       ledger-ring = rw length-drop (omega (arith, part-length sizes 7 m (omega arith) l));
     }
-
-abbrev spansOf : State → List (List ℕ)
-spansOf s =
-    (s .layout ∷ [])
-    ∷ (s .last ∷ [])
-    ∷ collectionWords (s .collection)
-    ∷ depositWords (s .deposit)
-    ∷ medicalWords (s .medical)
-    ∷ arrangementWords (s .arrangement)
-    ∷ receiptsWords (s .receipts)
-    ∷ ledgerWords (s .ledger)
-    ∷ []
 
 sized : (s : State) → Ringed s → Sized sizes (spansOf s)
 sized s r = (refl, (refl, (refl, (refl, (refl, (refl, (omega (arith, r .receipts-ring), (omega (arith, r .ledger-ring), tt))))))))

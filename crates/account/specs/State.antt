@@ -85,10 +85,9 @@ stateOf cs =
 abbrev pub stateOn : List ℕ → State
 stateOn m = stateOf (cut 0 sizes m)
 
--- the words of an account, every one of them: equal accounts are equal memory
-abbrev pub wordsOf : State → List ℕ
-wordsOf s =
-    joined (
+-- the spans of an account
+abbrev pub spansOf : State → List (List ℕ)
+spansOf s =
     (s .layout ∷ [])
     ∷ (s .last ∷ [])
     ∷ collectionWords (s .collection)
@@ -98,7 +97,10 @@ wordsOf s =
     ∷ receiptsWords (s .receipts)
     ∷ ledgerWords (s .ledger)
     ∷ []
-    )
+
+-- the words of an account, every one of them: equal accounts are equal memory
+abbrev pub wordsOf : State → List ℕ
+wordsOf s = joined (spansOf s)
 
 -- a fresh account, no events, service on, all sums 0: the number of the layout, and zeros
 abbrev pub freshWords : List ℕ
@@ -169,48 +171,62 @@ view s e =
       «open_count» = s .ledger .made - s .ledger .closed;
     }
 
+-- ---- an account with some parts in place of its own, and all others as they are
+abbrev pub withMoney : State → Arrangement → Receipts → Ledger → State
+withMoney s a r l =
+    record {
+      layout = s .layout;
+      last = s .last;
+      collection = s .collection;
+      deposit = s .deposit;
+      medical = s .medical;
+      arrangement = a;
+      receipts = r;
+      ledger = l;
+    }
+
+abbrev pub withFile : State → Deposit → Medical → State
+withFile s d m =
+    record {
+      layout = s .layout;
+      last = s .last;
+      collection = s .collection;
+      deposit = d;
+      medical = m;
+      arrangement = s .arrangement;
+      receipts = s .receipts;
+      ledger = s .ledger;
+    }
+
+abbrev pub withService : State → ℕ → Collection → State
+withService s t c =
+    record {
+      layout = s .layout;
+      last = t;
+      collection = c;
+      deposit = s .deposit;
+      medical = s .medical;
+      arrangement = s .arrangement;
+      receipts = s .receipts;
+      ledger = s .ledger;
+    }
+
 -- ---- what it becomes when e is accepted, in three steps
 -- the money: ledger, receipts and arrangement
 abbrev pub moneyAfter : State → Event → View → State
 moneyAfter s e v =
-    record {
-      layout = s .layout;
-      last = s .last;
-      collection = s .collection;
-      deposit = s .deposit;
-      medical = s .medical;
-      arrangement = arrangementAfter (s .arrangement) e (v .arrears) (v .payment);
-      receipts = receiptsAfter (s .receipts) e;
-      ledger = ledgerAfter (s .ledger) e (charges e) (chargeOf v e) (creditOf v e);
-    }
+    withMoney s
+    (arrangementAfter (s .arrangement) e (v .arrears) (v .payment))
+    (receiptsAfter (s .receipts) e)
+    (ledgerAfter (s .ledger) e (charges e) (chargeOf v e) (creditOf v e))
 
 -- what is kept on file: the deposit, certificates and approvals
 abbrev pub fileAfter : State → Event → State
-fileAfter s e =
-    record {
-      layout = s .layout;
-      last = s .last;
-      collection = s .collection;
-      deposit = depositAfter (s .deposit) e;
-      medical = medicalAfter (s .medical) e;
-      arrangement = s .arrangement;
-      receipts = s .receipts;
-      ledger = s .ledger;
-    }
+fileAfter s e = withFile s (depositAfter (s .deposit) e) (medicalAfter (s .medical) e)
 
 -- service, notice and calls, by the arrears after e; and the day
 abbrev pub serviceAfter : State → Event → State
-serviceAfter s e =
-    record {
-      layout = s .layout;
-      last = e .day;
-      collection = collectionAfter (s .collection) e (arrearsBy (s .ledger) (e .day));
-      deposit = s .deposit;
-      medical = s .medical;
-      arrangement = s .arrangement;
-      receipts = s .receipts;
-      ledger = s .ledger;
-    }
+serviceAfter s e = withService s (e .day) (collectionAfter (s .collection) e (arrearsBy (s .ledger) (e .day)))
 
 unfoldable pub applied : State → Event → View → State
 applied s e v = serviceAfter (fileAfter (moneyAfter s e v) e) e
