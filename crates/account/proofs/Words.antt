@@ -8,11 +8,13 @@ use lib.Seq.{take-all}
 use Rattle.span.specs.Span.{joined}
 use Rattle.span.proofs.Law.{whole}
 use Rattle.span.proofs.Parts.{part, part-length, joined-cut, joined-length, Sized, cut-joined}
+use Rattle.rules.specs.Limits.{knownReceipts}
 use Rattle.collection.proofs.Words.{collection-whole}
 use Rattle.deposit.proofs.Words.{deposit-whole}
 use Rattle.medical.proofs.Words.{medical-whole}
 use Rattle.arrangement.proofs.Words.{arrangement-whole}
 use Rattle.receipts.proofs.Words.{receipts-whole}
+use Rattle.ledger.specs.Ring.{ringSize}
 use Rattle.ledger.proofs.Words.{ledger-whole}
 use Rattle.account.specs.State.{State, sizes, accountSize, stateOf, stateOn, spansOf, wordsOf}
 
@@ -31,8 +33,8 @@ account-whole m l =
 
 -- the rings of an account have their places
 pub record Ringed (s : State) : Type 0 where
-  pub receipts-ring : length (s .receipts .recent) ≡ 32
-  pub ledger-ring : length (s .ledger .ring) ≡ 128
+  pub receipts-ring : length (s .receipts .recent) ≡ knownReceipts
+  pub ledger-ring : length (s .ledger .ring) ≡ ringSize
 
 pub ringed-on : (m : List ℕ) → length m ≡ accountSize → Ringed (stateOn m)
 ringed-on m l =

@@ -10,7 +10,7 @@ use Rattle.basics.proofs.Cases.{on, never, and-left, and-right, and-both}
 use Rattle.rules.specs.Kinds.{finalNotice, disconnection}
 use Rattle.rules.specs.History.{History, is, within, lastPosted}
 use Rattle.rules.specs.Money.{arrears}
-use Rattle.rules.specs.Limits.{enough}
+use Rattle.rules.specs.Limits.{enough, noticeTo}
 use Rattle.rules.specs.Notice.{surviving, noticeLive}
 use Rattle.rules.specs.Accepted.{Lawful}
 use Rattle.rules.proofs.Days.{Sorted, within-true, within-in}
@@ -19,12 +19,12 @@ use Rattle.collection.specs.declared.Notice.{Notice}
 use Rattle.collection.specs.Collection.{collectionOf}
 
 -- a notice that is not live on a day is not live later either
-gone : (f : ℕ → ℕ) (n : Notice) (b : Bool) (d t : ℕ) → (eqb (n .live) 1 && within (n .day) (n .day + 20) d) ≡ false
-    → b ≡ (eqb (n .live) 1 && within (f (n .day)) (n .day + 20) t) → n .day ≤ d → d ≤ t → b ≡ false
+gone : (f : ℕ → ℕ) (n : Notice) (b : Bool) (d t : ℕ) → (eqb (n .live) 1 && within (n .day) (n .day + noticeTo) d) ≡ false
+    → b ≡ (eqb (n .live) 1 && within (f (n .day)) (n .day + noticeTo) t) → n .day ≤ d → d ≤ t → b ≡ false
 gone f n b d t off e p l =
     e ∙ never _ (λ on.
-    let w = within-true (f (n .day)) (n .day + 20) t (and-right (eqb (n .live) 1) _ on) in
-    true≢false (sym (and-both (eqb (n .live) 1) _ (and-left (eqb (n .live) 1) _ on) (within-in (n .day) (n .day + 20) d p (omega arith))) ∙ off))
+    let w = within-true (f (n .day)) (n .day + noticeTo) t (and-right (eqb (n .live) 1) _ on) in
+    true≢false (sym (and-both (eqb (n .live) 1) _ (and-left (eqb (n .live) 1) _ on) (within-in (n .day) (n .day + noticeTo) d p (omega arith))) ∙ off))
 
 -- no notice is given while one is live
 abbrev pub Alone : History → Type 0
@@ -76,17 +76,17 @@ step false a b s live W d day o q = rw q (shuffle live (W day) a b)
 
 -- f n is the first day on which a notice of the day n counts: n itself for a live one, n + 5 for one in its days
 pub surviving-is : (f : ℕ → ℕ) (h : History) (t : ℕ) → Sorted h → Alone h → lastPosted h ≤ t
-    → surviving (λ n. within (f n) (n + 20) t) h
-    ≡ (eqb (collectionOf h .notice .live) 1 && within (f (collectionOf h .notice .day)) (collectionOf h .notice .day + 20) t)
+    → surviving (λ n. within (f n) (n + noticeTo) t) h
+    ≡ (eqb (collectionOf h .notice .live) 1 && within (f (collectionOf h .notice .day)) (collectionOf h .notice .day + noticeTo) t)
 unfolding collectionOf
 surviving-is f [] t s a l = refl
 surviving-is f (e ∷ h) t s a l =
     let n = collectionOf h .notice in
-    let was = surviving (λ n. within (f n) (n + 20) t) h in
+    let was = surviving (λ n. within (f n) (n + noticeTo) t) h in
     let ih = surviving-is f h t (s .1) (a .1) (omega arith) in
     let now = surviving-is (λ n. n) h (e .day) (s .1) (a .1) (s .0) in
     rw mark
-    (step (is finalNotice e) (not (is disconnection e)) (leb enough (arrears (e ∷ h) (e .day))) was (eqb (n .live) 1) (λ n. within (f n) (n + 20) t)
+    (step (is finalNotice e) (not (is disconnection e)) (leb enough (arrears (e ∷ h) (e .day))) was (eqb (n .live) 1) (λ n. within (f n) (n + noticeTo) t)
     (e .day) (n .day)
     (λ q. gone f n was (e .day) t (sym now ∙ a .0 (eqb-true (e .kind) finalNotice q)) ih (omega (arith, day-past h (s .1))) l)
     ih)

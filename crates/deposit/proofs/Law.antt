@@ -8,7 +8,7 @@ use lib.Dec.{leb}
 use borrow.Author.Tests.{le-leb, leb-true}
 use Rattle.basics.proofs.Cases.{on, links}
 use Rattle.rules.specs.Kinds.{depositAsked, depositPaid}
-use Rattle.rules.specs.Limits.{finalDay, mostDeposit}
+use Rattle.rules.specs.Limits.{finalDay, mostDeposit, year}
 use Rattle.rules.specs.History.{History, lastPosted}
 use Rattle.rules.specs.Deposit.{moves, held, required, full, fullOn, earned}
 use Rattle.rules.specs.Accepted.{Lawful}
@@ -40,7 +40,7 @@ conduct-ok h w =
     )
 
 -- full for 365 days
-long-is : (h : History) → Lawful h → (t : ℕ) → (full h && leb (paidOn h + 365) t) ≡ (full h && leb (fullOn h + 365) t)
+long-is : (h : History) → Lawful h → (t : ℕ) → (full h && leb (paidOn h + year) t) ≡ (full h && leb (fullOn h + year) t)
 long-is h w t = on (full h) (λ f. rw (full-is h w f)) (λ f. rw f)
 
 pub record DepositLaw (h : History) : Type 0 where
@@ -57,7 +57,7 @@ deposit-law h w =
       held-is = rw (deposit-is h);
       required-is = rw (deposit-is h);
       full-is = λ f. rw (deposit-is h) (full-is h w f);
-      earned-is = λ t l. rw (deposit-is h, quiet-is h t (sorted h w) l, long-is h w t) (sym (and-assoc (full h && leb (fullOn h + 365) t) _ _));
+      earned-is = λ t l. rw (deposit-is h, quiet-is h t (sorted h w) l, long-is h w t) (sym (and-assoc (full h && leb (fullOn h + year) t) _ _));
       passes = rw (deposit-is h) (simp (le-leb _ _ (k .held-le), le-leb _ _ (k .required-le), le-leb _ _ (paid-in h w), conduct-ok h w));
     }
 

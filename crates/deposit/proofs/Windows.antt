@@ -1,5 +1,5 @@
 -- The three newest notices and the newest disconnection say of the last 365 days what the whole history says.
-use Prim.Native.Nat.{ℕ, _+_, _≤_, min, zero-le}
+use Prim.Native.Nat.{ℕ, _+_, _-_, _≤_, min, zero-le}
 use mathlib.Core.Path.{_≡_, refl, sym, ap}
 use mathlib.Core.Bool.{Bool, true, false, cond, not, _&&_}
 use mathlib.Core.List.{[], _∷_}
@@ -7,6 +7,7 @@ use native.Mathlib.Omega.{arith}
 use lib.Dec.{leb}
 use borrow.Author.Tests.{le-leb, lt-leb, leb-true}
 use Rattle.basics.proofs.Cases.{on, and-left, and-right, and-both, absorb}
+use Rattle.rules.specs.Limits.{year}
 use Rattle.rules.specs.Kinds.{finalNotice, disconnection}
 use Rattle.rules.specs.History.{History, is, within, lastPosted, any, count}
 use Rattle.rules.specs.Deposit.{inYear}
@@ -22,7 +23,7 @@ abbrev pub wasCut : History → ℕ → Bool
 wasCut h t = any (λ e. is disconnection e && inYear t e) h
 
 -- ---- a day that is kept as the day after it
-recent-now : (d t : ℕ) → d ≤ t → within d (d + 364) t ≡ leb t (d + 364)
+recent-now : (d t : ℕ) → d ≤ t → within d (d + (year - 1)) t ≡ leb t (d + (year - 1))
 unfolding within
 recent-now d t l = simp (le-leb d t l)
 
@@ -32,7 +33,7 @@ year-more a b t l e =
     and-both (leb 1 b) (leb t (b + 363)) (le-leb 1 b (omega (arith, leb-true 1 a (and-left (leb 1 a) _ e))))
     (le-leb t (b + 363) (omega (arith, leb-true t (a + 363) (and-right (leb 1 a) _ e))))
 
-year-day : (d t : ℕ) → inYearBy (d + 1) t ≡ leb t (d + 364)
+year-day : (d t : ℕ) → inYearBy (d + 1) t ≡ leb t (d + (year - 1))
 unfolding inYearBy
 year-day d t = rw (le-leb 1 (d + 1) (omega arith)) (ap (leb t) (omega arith))
 
@@ -69,7 +70,7 @@ ones-more : (a b t : ℕ) → a ≤ b → ones a t ≤ ones b t
 unfolding ones
 ones-more a b t l = on (inYearBy a t) (λ q. simp (q, year-more a b t l q) (omega arith)) (λ q. simp q (omega arith))
 
-ones-day : (d t : ℕ) → ones (d + 1) t ≡ cond (leb t (d + 364)) 1 0
+ones-day : (d t : ℕ) → ones (d + 1) t ≡ cond (leb t (d + (year - 1))) 1 0
 unfolding ones
 ones-day d t = simp year-day
 

@@ -12,14 +12,14 @@ use Rattle.rules.specs.Kinds.{payout}
 use Rattle.rules.specs.History.{amountIf}
 use Rattle.rules.specs.Money.{keep}
 use Rattle.rules.specs.Limits.{mostOpen}
-use Rattle.ledger.specs.Ring.{uptoAt, stored, itemsFrom, closedFrom, belowFrom}
+use Rattle.ledger.specs.Ring.{ringSize, uptoAt, stored, itemsFrom, closedFrom, belowFrom}
 use Rattle.ledger.specs.Ledger.{Ledger, creditsBy, openOf, enteredIn, creditedIn, paidFrom, settled, ledgerAfter, isSettled}
 use Rattle.ledger.proofs.Ring.{isOpen, Chained, ring-joined, chain-join, left-open, left-chained, closed-in, closed-again, below-again, many}
 use Rattle.ledger.proofs.Turns.{done, stop, pass}
 
 -- a ring of 64 places that holds the open items, whose sums rise to C
 pub record Formed (l : Ledger) : Type 0 where
-  pub size : length (l .ring) ≡ 128
+  pub size : length (l .ring) ≡ ringSize
   pub closed-le : l .closed ≤ l .made
   pub chain : Chained (l .below) (l .charged) (openOf l)
 

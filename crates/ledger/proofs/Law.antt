@@ -18,7 +18,7 @@ use Rattle.rules.specs.History.{History, amountIf, total}
 use Rattle.rules.specs.Deposit.{held}
 use Rattle.rules.specs.Money.{creditBy, credited, credits, charges, charge, charged, owed, items, unpaid, sumOf, keep, openItems, due, arrears}
 use Rattle.rules.specs.Range.{inRange}
-use Rattle.rules.specs.Limits.{limit, mostOpen}
+use Rattle.rules.specs.Limits.{limit, mostOpen, grace}
 use Rattle.rules.specs.Receipts.{returnable}
 use Rattle.rules.specs.Accepted.{viewOf, Lawful}
 use Rattle.rules.proofs.Items.{keep-append, keep-keep, keep-same, keep-short, sum-keep, sum-mono}
@@ -27,7 +27,7 @@ use Rattle.rules.proofs.Passed.{passed}
 use Rattle.rules.proofs.Room.{payout-in}
 use Rattle.rules.proofs.Lawful.{payouts}
 use Rattle.rules.proofs.Bounds.{charged-limit, credited-limit, charge-above}
-use Rattle.ledger.specs.Ring.{itemsFrom}
+use Rattle.ledger.specs.Ring.{ringSize, itemsFrom}
 use Rattle.ledger.specs.Ledger.{Ledger, creditsBy, openOf, arrearsBy, enteredIn, creditedIn, paidFrom, settled, ledgerAfter, ledgerOf, ledgerOk}
 use Rattle.ledger.proofs.Ring.{isOpen, Chained, chain-sum, closed-in}
 use Rattle.ledger.proofs.Places.{Placed, none-placed, placed-more, one-ring}
@@ -205,12 +205,12 @@ room-kept (e ∷ h) w = room-more h e w (room-kept h (w .1))
 
 -- ---- the law
 closed-due : (p t : ℕ) (x : Item) → isOpen p x ≡ false → due p t x ≡ 0
-closed-due p t x q = let l = ltb-false p (x .upto) q in on (leb (x .day + 20) t) (λ r. rw r (omega arith)) (λ r. rw r)
+closed-due p t x q = let l = ltb-false p (x .upto) q in on (leb (x .day + grace) t) (λ r. rw r (omega arith)) (λ r. rw r)
 
 -- no more is due than was charged
 due-le : (p t n k b c : ℕ) (s : List ℕ) → Chained b c (itemsFrom n k b s) → sumOf (due p t) (itemsFrom n k b s) ≤ c
 due-le p t n k b c s e =
-    let m = sum-mono (due p t) (λ x. x .amount) (λ x. on (leb (x .day + 20) t) (λ q. rw q (omega arith)) (λ q. rw q zero-le)) (itemsFrom n k b s) in
+    let m = sum-mono (due p t) (λ x. x .amount) (λ x. on (leb (x .day + grace) t) (λ q. rw q (omega arith)) (λ q. rw q zero-le)) (itemsFrom n k b s) in
     omega (arith, chain-sum n k b c s e)
 
 -- l keeps h: what it answers, and every word of it
@@ -228,7 +228,7 @@ pub record KeepsLedger (h : History) (l : Ledger) : Type 0 where
   pub made-is : l .made ≡ length (items h)
   pub closed-is : l .closed + length (openItems h) ≡ length (items h)
   pub below-is : l .below + sumOf (λ x. x .amount) (openItems h) ≡ charged h
-  pub size : length (l .ring) ≡ 128
+  pub size : length (l .ring) ≡ ringSize
   pub placed : Placed (items h) (l .ring)
   pub passes : ledgerOk l ≡ true
 

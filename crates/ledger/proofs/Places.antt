@@ -7,7 +7,7 @@ use lib.ListN.{length, getD, replicate, length-append, length-set, getD-replicat
 use lib.Seq.{getD-append-seam, ext-getD}
 use Rattle.basics.proofs.Cases.{on-lt, on-eq}
 use Rattle.rules.specs.declared.Item.{Item}
-use Rattle.ledger.specs.Ring.{places, dayIn, uptoIn, dayAt, uptoAt, stored}
+use Rattle.ledger.specs.Ring.{places, ringSize, dayIn, uptoIn, dayAt, uptoAt, stored}
 use Rattle.ledger.proofs.Ring.{apart, day-new, upto-new, day-old, upto-old}
 
 -- past the last
@@ -15,20 +15,20 @@ abbrev zeroItem : Item
 zeroItem = record { day = 0; amount = 0; upto = 0 }
 
 pub record Placed (xs : List Item) (s : List ℕ) : Type 0 where
-  pub size : length s ≡ 128
+  pub size : length s ≡ ringSize
   pub days : (k : ℕ) → k < length xs → length xs ≤ k + places → dayAt s k ≡ getD xs k zeroItem .day
   pub uptos : (k : ℕ) → k < length xs → length xs ≤ k + places → uptoAt s k ≡ getD xs k zeroItem .upto
   pub free-days : (k : ℕ) → length xs ≤ k → k < places → dayAt s k ≡ 0
   pub free-uptos : (k : ℕ) → length xs ≤ k → k < places → uptoAt s k ≡ 0
 
-pub none-placed : Placed [] (replicate 128 0)
+pub none-placed : Placed [] (replicate ringSize 0)
 none-placed =
     record {
       size = refl;
       days = λ k a b. absurd (omega arith);
       uptos = λ k a b. absurd (omega arith);
-      free-days = λ k a b. getD-replicate 128 (dayIn k) 0 0 (omega arith);
-      free-uptos = λ k a b. getD-replicate 128 (uptoIn k) 0 0 (omega arith);
+      free-days = λ k a b. getD-replicate ringSize (dayIn k) 0 0 (omega arith);
+      free-uptos = λ k a b. getD-replicate ringSize (uptoIn k) 0 0 (omega arith);
     }
 
 module _ (xs : List Item) (s : List ℕ) (p : Placed xs s) (x : Item) where

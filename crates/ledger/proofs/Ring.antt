@@ -11,14 +11,14 @@ use borrow.Author.Tests.{lt-ltb}
 use Rattle.basics.proofs.Cases.{on-lt}
 use Rattle.rules.specs.declared.Item.{Item}
 use Rattle.rules.specs.Money.{keep, sumOf}
-use Rattle.ledger.specs.Ring.{places, dayIn, uptoIn, dayAt, uptoAt, stored, itemAt, itemsFrom, closedFrom, belowFrom}
+use Rattle.ledger.specs.Ring.{places, ringSize, dayIn, uptoIn, dayAt, uptoAt, stored, itemAt, itemsFrom, closedFrom, belowFrom}
 
 -- kept while credits of p have not paid all of it
 abbrev pub isOpen : ℕ → Item → Bool
 isOpen p x = ltb p (x .upto)
 
 -- ---- a store of item j
-module _ (s : List ℕ) (l : length s ≡ 128) (j d u : ℕ) where
+module _ (s : List ℕ) (l : length s ≡ ringSize) (j d u : ℕ) where
   pub day-new : dayAt (stored s j d u) j ≡ d
   day-new =
       rw (
@@ -59,7 +59,7 @@ chain-le b c [] e = omega arith
 chain-le b c (x ∷ xs) e = omega (arith, e .0, chain-le (x .upto) c xs (e .1))
 
 -- ---- one more item joins at the end; b is the sum before the first, c that of all
-pub ring-joined : (n k b c : ℕ) (s : List ℕ) (d a : ℕ) → length s ≡ 128 → n < places → Chained b c (itemsFrom n k b s)
+pub ring-joined : (n k b c : ℕ) (s : List ℕ) (d a : ℕ) → length s ≡ ringSize → n < places → Chained b c (itemsFrom n k b s)
     → itemsFrom (suc n) k b (stored s (k + n) d (c + a)) ≡ itemsFrom n k b s ++ (record { day = d; amount = a; upto = c + a } ∷ [])
 ring-joined zero k b c s d a l r e =
     let z : k + 0 ≡ k = omega arith in

@@ -9,6 +9,7 @@ use lib.ListN.{getD, length-map, List·getD-eq-default}
 use borrow.Author.Tests.{lt-ltb, le-ltb, le-leb, lt-leb, ne-eqb}
 use Rattle.basics.specs.Machine.{largest}
 use Rattle.basics.proofs.Cases.{on-le}
+use Rattle.rules.specs.Limits.{grace}
 use Rattle.rules.specs.declared.Item.{Item}
 use Rattle.rules.specs.Money.{sumOf, due}
 use Rattle.ledger.specs.Ring.{dayAt, uptoAt, itemAt, itemsFrom, closedFrom, belowFrom}
@@ -44,12 +45,12 @@ module _ (m k p b : ℕ) (s : List ℕ) where
 
 -- ---- arrears
 -- day + 20 ≤ t, where the sum need not fit
-pub late : (d t : ℕ) → (leb 20 t && leb d (t - 20)) ≡ leb (d + 20) t
+pub late : (d t : ℕ) → (leb grace t && leb d (t - grace)) ≡ leb (d + grace) t
 late d t =
-    on-le (d + 20) t
-    (λ q l. rw (q, le-leb 20 t (omega arith), le-leb d (t - 20) (omega arith)))
-    (λ q l. on-le 20 t
-    (λ r m. rw (q, r, lt-leb d (t - 20) (omega arith)))
+    on-le (d + grace) t
+    (λ q l. rw (q, le-leb grace t (omega arith), le-leb d (t - grace) (omega arith)))
+    (λ q l. on-le grace t
+    (λ r m. rw (q, r, lt-leb d (t - grace) (omega arith)))
     (λ r m. rw (q, r)))
 
 -- a sum that stops at the largest number, part by part

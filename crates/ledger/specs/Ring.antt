@@ -11,6 +11,10 @@ use Rattle.rules.specs.declared.Item.{Item}
 abbrev pub places : ℕ
 places = mostOpen
 
+-- its words
+abbrev pub ringSize : ℕ
+ringSize = 2 * places
+
 -- the words of the place of item k
 abbrev pub dayIn : ℕ → ℕ
 dayIn k = 2 * (k % places)

@@ -10,7 +10,7 @@ use borrow.Author.Tests.{le-leb, lt-ltb, le-ltb, ltb-true, eqb-true}
 use Rattle.basics.proofs.Cases.{on, on-lt, both-ways, at-most}
 use Rattle.rules.specs.declared.Event.{Event}
 use Rattle.rules.specs.Kinds.{certificate, approval}
-use Rattle.rules.specs.Limits.{finalDay}
+use Rattle.rules.specs.Limits.{finalDay, certificateDays, approvalDays}
 use Rattle.rules.specs.History.{History, is, lastPosted}
 use Rattle.rules.specs.Medical.{covers, certified, approved}
 use Rattle.rules.specs.Range.{unknown, fields}
@@ -56,8 +56,8 @@ end-in k h e p =
     (λ q. omega (arith, p .in-time, ranged k e (p .in-range) (eqb-true (e .kind) k q) .amount-high))
 
 record Ends (m : Medical) : Type 0 where
-  certified-le : m .«certified_to» ≤ finalDay + 180
-  approved-le : m .«approved_to» ≤ finalDay + 30
+  certified-le : m .«certified_to» ≤ finalDay + certificateDays
+  approved-le : m .«approved_to» ≤ finalDay + approvalDays
 
 ends : (h : History) → Lawful h → Ends (medicalOf h)
 unfolding medicalOf

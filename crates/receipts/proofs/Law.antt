@@ -10,6 +10,7 @@ use lib.Seq.{getD-set-same, getD-set-other}
 use borrow.Author.Tests.{le-leb, leb-true, ltb-true}
 use Rattle.basics.proofs.Cases.{on, on-eq, and-left, and-right}
 use Rattle.basics.proofs.Lists.{at-set}
+use Rattle.rules.specs.Limits.{knownReceipts}
 use Rattle.rules.specs.Kinds.{payment, returnedPayment}
 use Rattle.rules.specs.History.{History, is, within}
 use Rattle.rules.specs.Receipts.{payments, returned, returnable}
@@ -21,22 +22,22 @@ use Rattle.receipts.specs.Receipts.{Receipts, receiptsOf, paymentBy, rec
 
 -- ---- a place, before and after: pays are the payments, newest first, n how many, R the returned ones
 abbrev Placed : List ℕ → List ℕ → ℕ → (ℕ → Bool) → Type 0
-Placed ring pays n R = (r : ℕ) → 1 ≤ r → r ≤ n → n < r + 32 → getD ring (r % 32) 0 ≡ cond (not (R r)) (getD pays (n - r) 0) 0
+Placed ring pays n R = (r : ℕ) → 1 ≤ r → r ≤ n → n < r + knownReceipts → getD ring (r % knownReceipts) 0 ≡ cond (not (R r)) (getD pays (n - r) 0) 0
 
 module _ (ring pays : List ℕ) (n : ℕ) (R : ℕ → Bool) (k : Placed ring pays n R) where
-  next-place : length ring ≡ 32 → (a : ℕ) → R (suc n) ≡ false → Placed (set ring ((n + 1) % 32) a) (a ∷ pays) (suc n) R
+  next-place : length ring ≡ knownReceipts → (a : ℕ) → R (suc n) ≡ false → Placed (set ring ((n + 1) % knownReceipts) a) (a ∷ pays) (suc n) R
   next-place m a f r p q w =
       on-eq r (n + 1)
       (λ _ z. let s : suc n - r ≡ 0 = omega arith in let t : r ≡ suc n = omega arith in
-      rw (s, z) (getD-set-same ring ((n + 1) % 32) a 0 (omega arith) ∙ rw (sym z, t, f)))
+      rw (s, z) (getD-set-same ring ((n + 1) % knownReceipts) a 0 (omega arith) ∙ rw (sym z, t, f)))
       (λ _ z. let s : suc n - r ≡ suc (n - r) = omega arith in
-      rw s (getD-set-other ring ((n + 1) % 32) (r % 32) a 0 (omega arith) ∙ k r p (omega arith) (omega arith)))
+      rw s (getD-set-other ring ((n + 1) % knownReceipts) (r % knownReceipts) a 0 (omega arith) ∙ k r p (omega arith) (omega arith)))
 
-  cleared-place : (a : ℕ) → a ≤ n → n < a + 32 → Placed (set ring (a % 32) 0) pays n (λ r. eqb a r || R r)
+  cleared-place : (a : ℕ) → a ≤ n → n < a + knownReceipts → Placed (set ring (a % knownReceipts) 0) pays n (λ r. eqb a r || R r)
   cleared-place a x y r p q w =
       on-eq a r
-      (λ e z. rw (e, z) (at-set ring (r % 32) 0))
-      (λ e z. rw e (getD-set-other ring (a % 32) (r % 32) 0 0 (omega arith) ∙ k r p q w))
+      (λ e z. rw (e, z) (at-set ring (r % knownReceipts) 0))
+      (λ e z. rw e (getD-set-other ring (a % knownReceipts) (r % knownReceipts) 0 0 (omega arith) ∙ k r p q w))
 
 -- ---- over a history
 count-is : (h : History) → receiptsOf h .count ≡ length (payments h)
@@ -44,7 +45,7 @@ unfolding receiptsOf
 count-is [] = refl
 count-is (e ∷ h) = let ih = count-is h in on (is payment e) (λ q. rw q (omega arith)) (λ q. rw q (omega arith))
 
-full-length : (h : History) → length (receiptsOf h .recent) ≡ 32
+full-length : (h : History) → length (receiptsOf h .recent) ≡ knownReceipts
 unfolding receiptsOf
 full-length [] = refl
 full-length (e ∷ h) =
@@ -76,16 +77,16 @@ payment-is : (h : History) → Lawful h → (r : ℕ) → paymentBy (receiptsOf 
 payment-is h w r =
     let n = length (payments h) in
     rw (count-is h)
-    (readings (within 1 n r && ltb (n - r) 32) (returned h r) _ _
+    (readings (within 1 n r && ltb (n - r) knownReceipts) (returned h r) _ _
     (λ t.
-    let v = within-true 1 n r (and-left (within 1 n r) (ltb (n - r) 32) t) in
-    places h w r (v .0) (v .1) (omega (arith, ltb-true (n - r) 32 (and-right (within 1 n r) (ltb (n - r) 32) t)))))
+    let v = within-true 1 n r (and-left (within 1 n r) (ltb (n - r) knownReceipts) t) in
+    places h w r (v .0) (v .1) (omega (arith, ltb-true (n - r) knownReceipts (and-right (within 1 n r) (ltb (n - r) knownReceipts) t)))))
 
 -- ---- the law
 pub record ReceiptsLaw (h : History) : Type 0 where
   pub count-is : receiptsOf h .count ≡ length (payments h)
   pub payment-is : (r : ℕ) → paymentBy (receiptsOf h) r ≡ returnable h r
-  pub size : length (receiptsOf h .recent) ≡ 32
+  pub size : length (receiptsOf h .recent) ≡ knownReceipts
   pub passes : receiptsOk (receiptsOf h) ≡ true
 
 pub receipts-law : (h : History) → Lawful h → ReceiptsLaw h

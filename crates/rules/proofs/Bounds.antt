@@ -13,7 +13,7 @@ use Rattle.basics.proofs.Lists.{every-in}
 use Rattle.rules.specs.declared.Event.{Event}
 use Rattle.rules.specs.declared.View.{View}
 use Rattle.rules.specs.Kinds.{bill, payment, returnedPayment, fee, depositAsked, depositPaid, arrangement, finalNotice, reconnection}
-use Rattle.rules.specs.Limits.{finalDay, mostDeposit, limit}
+use Rattle.rules.specs.Limits.{finalDay, mostDeposit, limit, grace, knownReceipts}
 use Rattle.rules.specs.History.{History, is, within, lastPosted, total}
 use Rattle.rules.specs.Fees.{fees, feeOf}
 use Rattle.rules.specs.Receipts.{payments, returned, known, returnable}
@@ -60,7 +60,7 @@ credited-limit h w = limits h w .credited-le
 -- arrears are at most C
 pub arrears-charged : (h : History) (t : ℕ) → arrears h t ≤ charged h
 arrears-charged h t =
-    let m = sum-mono (due (credits h) t) (λ x. x .amount) (λ x. on (leb (x .day + 20) t) (λ q. rw q (omega arith)) (λ q. rw q zero-le)) (items h) in
+    let m = sum-mono (due (credits h) t) (λ x. x .amount) (λ x. on (leb (x .day + grace) t) (λ q. rw q (omega arith)) (λ q. rw q zero-le)) (items h) in
     omega (arith, charged-items h)
 
 -- ---- every charge is above 0
@@ -115,16 +115,16 @@ held-in (e ∷ h) w =
 pub record Known (h : History) (r : ℕ) : Type 0 where
   pub low : 1 ≤ r
   pub high : r ≤ length (payments h)
-  pub near : length (payments h) < r + 32
+  pub near : length (payments h) < r + knownReceipts
 
 pub return-known : (h : History) (e : Event) → Passed h e → e .kind ≡ returnedPayment → Known h (e .amount)
 return-known h e p z =
     let n = length (payments h) in
     let r : eqb (returnable h (e .amount)) 0 ≡ false = rw z at (p .allowed .r6) in
     let k = picked (known h (e .amount)) _ (eqb-false (returnable h (e .amount)) 0 r) in
-    let b = and-left (within 1 n (e .amount) && ltb (n - e .amount) 32) _ k in
+    let b = and-left (within 1 n (e .amount) && ltb (n - e .amount) knownReceipts) _ k in
     let w = within-true 1 n (e .amount) (and-left (within 1 n (e .amount)) _ b) in
-    record { low = w .0; high = w .1; near = omega (arith, ltb-true (n - e .amount) 32 (and-right (within 1 n (e .amount)) _ b)) }
+    record { low = w .0; high = w .1; near = omega (arith, ltb-true (n - e .amount) knownReceipts (and-right (within 1 n (e .amount)) _ b)) }
 
 -- no receipt past the count was returned
 pub not-yet : (h : History) → Lawful h → (r : ℕ) → length (payments h) < r → returned h r ≡ false
@@ -163,7 +163,7 @@ known-is h w r =
     let n = length (payments h) in
     on (known h r)
     (λ k.
-    let b = and-left (within 1 n r && ltb (n - r) 32) _ k in
+    let b = and-left (within 1 n r && ltb (n - r) knownReceipts) _ k in
     let v = within-true 1 n r (and-left (within 1 n r) _ b) in
     rw (k, every-in (ltb 0) (payments h) (n - r) 0 (omega arith) (payments-above h w)))
     (λ k. rw k)
