@@ -83,7 +83,8 @@ fn words(line: &str) -> Result<Vec<&str>, String> {
 /// A day by its number or its date.
 pub fn day(word: &str) -> Result<u32, String> {
     if !dates::is_written_so(word) {
-        return Ok(number(word, "the day", u32::MAX.into())? as u32);
+        let day = written_number(word, "the day", "a date or a whole number", u32::MAX.into())?;
+        return Ok(day as u32);
     }
     dates::day_of(word).ok_or_else(|| {
         format!("`{word}` is no day: there is no such date, or it is before 2000-01-01")
@@ -152,16 +153,18 @@ fn unexpected(kind: &Kind, field: &str) -> String {
     )
 }
 
-/// A whole number; `_` and `,` may group its digits.
 fn number(digits: &str, what: &str, largest: u64) -> Result<u64, String> {
+    written_number(digits, what, "a whole number", largest)
+}
+
+/// A whole number; `_` and `,` may group its digits. `form` says how it may be written.
+fn written_number(digits: &str, what: &str, form: &str, largest: u64) -> Result<u64, String> {
     let is_group = |c: char| c == '_' || c == ',';
     let plain = digits.replace(is_group, "");
     let is_number = !plain.is_empty() && plain.bytes().all(|b| b.is_ascii_digit());
     if !is_number || digits.starts_with(is_group) || digits.ends_with(is_group) {
         let found = shown(digits);
-        return Err(format!(
-            "expected {what} as a whole number, found `{found}`"
-        ));
+        return Err(format!("expected {what} as {form}, found `{found}`"));
     }
     match plain.parse() {
         Ok(n) if n <= largest => Ok(n),
@@ -261,7 +264,7 @@ mod tests {
         assert_eq!(days, [100, 73_048, 73_049]);
         let told = mistake("account\n2001-02-29 call", 2);
         assert!(told.starts_with("`2001-02-29` is no day: "), "{told}");
-        assert!(mistake("account\n2000-4-10 call", 2).contains("as a whole number"));
+        assert!(mistake("account\n2000-4-10 call", 2).contains("as a date or a whole number"));
     }
 
     #[test]
@@ -311,7 +314,8 @@ mod tests {
     fn an_event_needs_an_account_a_day_and_a_word() {
         assert!(mistake("# x\n\n5 call", 3).contains("before the first account"));
         assert!(mistake("account Smith", 1).contains("after #"));
-        assert!(mistake("account\nbill 5", 2).contains("the day as a whole number, found `bill`"));
+        assert!(mistake("account\nbill 5", 2)
+            .contains("the day as a date or a whole number, found `bill`"));
         assert!(mistake("account\n-5 call", 2).contains("found `-5`"));
         assert!(mistake("account\n4294967296 call", 2).contains("4294967295"));
         assert!(mistake("account\n5", 2).starts_with("after the day comes an event: bill, "));

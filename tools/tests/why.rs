@@ -70,7 +70,7 @@ fn what_can_not_be_shown_is_told_in_words() {
     let told = complaint(&run("why - 1", &book), 1);
     assert_eq!(
         told,
-        "hollupaq why: there is no account 1: the book's accounts are 0 to 0\n"
+        "hollupaq why: there is no account 1: the book's only account is 0\n"
     );
     let told = complaint(&run("why - 0", &[0; 8]), 1);
     assert_eq!(
@@ -120,14 +120,14 @@ fn a_day_that_the_core_refuses_is_told_in_words() {
 
 /// An option with a value that is none, and how the reason begins.
 const WRONG: &str = "\
---on soon => expected the day as a whole number, found `soon`
---on -1 => expected the day as a whole number, found `-1`
+--on soon => expected the day as a date or a whole number, found `soon`
+--on -1 => expected the day as a date or a whole number, found `-1`
 --on 2001-02-29 => `2001-02-29` is no day: there is no such date, or it is before 2000-01-01
 --on 1999-12-31 => `1999-12-31` is no day: there is no such date, or it is before 2000-01-01
 --try 131 bil 5 => `bil` is no event; the events are bill, payment, returned, 
 --try 131 payment => `payment` needs its amount in cents
 --try 131 payment 40.00 => expected its amount in cents as a whole number, found `40.00`
---try cut => expected the day as a whole number, found `cut`
+--try cut => expected the day as a date or a whole number, found `cut`
 --try # => expected a day and an event, found nothing
 --try 131 cut\t\u{7} => the control byte \\u{7} has no place in a text";
 

@@ -97,6 +97,7 @@ fn asked(given: &Given) -> Result<Asked, String> {
 fn no_account(account: usize, list: &AccountList) -> String {
     match list.len() {
         0 => format!("there is no account {account}: the book has none"),
+        1 => format!("there is no account {account}: the book's only account is 0"),
         n => format!(
             "there is no account {account}: the book's accounts are 0 to {}",
             n - 1
