@@ -8,7 +8,7 @@ use std::path::{Path, PathBuf};
 
 const CARGO: &str = "cargo run -q --bin hollupaq -- ";
 
-/// A call as it is written, and what is shown under it; nothing where no prompt stands before it.
+/// A call as it is written, and what is shown under it; nothing where no `$` stands before it.
 struct Shown {
     call: String,
     output: Option<String>,
