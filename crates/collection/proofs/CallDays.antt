@@ -9,27 +9,28 @@ use borrow.Author.Tests.{leb-true, le-leb}
 use Rattle.basics.proofs.Cases.{on, on-eq, both-ways, absorb, and-left, and-right, and-both}
 use Rattle.rules.specs.declared.Event.{Event}
 use Rattle.rules.specs.Kinds.{call}
+use Rattle.rules.specs.Limits.{callDays}
 use Rattle.rules.specs.History.{History, is, within, lastPosted}
 use Rattle.rules.specs.Notice.{called}
 use Rattle.rules.proofs.Days.{Sorted, within-true, within-in}
 use Rattle.collection.specs.declared.Calls.{Calls}
 use Rattle.collection.specs.Collection.{callsAfter, recentBy, calledBy, collectionOf}
 
-recent-true : (m t : ℕ) → recentBy m t ≡ true → (1 ≤ m) × (m ≤ t) × (t ≤ m + 2)
+recent-true : (m t : ℕ) → recentBy m t ≡ true → (1 ≤ m) × (m ≤ t) × (t ≤ m + (callDays - 1))
 unfolding recentBy
 recent-true m t e =
-    let w = within-true m (m + 2) t (and-right (leb 1 m) _ e) in
+    let w = within-true m (m + (callDays - 1)) t (and-right (leb 1 m) _ e) in
     (leb-true 1 m (and-left (leb 1 m) _ e), w .0, w .1)
 
-recent-in : (m t : ℕ) → 1 ≤ m → m ≤ t → t ≤ m + 2 → recentBy m t ≡ true
+recent-in : (m t : ℕ) → 1 ≤ m → m ≤ t → t ≤ m + (callDays - 1) → recentBy m t ≡ true
 unfolding recentBy
-recent-in m t p q r = and-both (leb 1 m) _ (le-leb 1 m p) (within-in m (m + 2) t q r)
+recent-in m t p q r = and-both (leb 1 m) _ (le-leb 1 m p) (within-in m (m + (callDays - 1)) t q r)
 
 -- the day after a call's day d, kept
-recent-day : (d t : ℕ) → recentBy (d + 1) t ≡ within (d + 1) (d + 3) t
+recent-day : (d t : ℕ) → recentBy (d + 1) t ≡ within (d + 1) (d + callDays) t
 recent-day d t =
     both-ways _ _ (λ e. let w = recent-true (d + 1) t e in within-in _ _ _ (omega arith) (omega arith))
-    (λ e. let w = within-true (d + 1) (d + 3) t e in recent-in _ _ (omega arith) (omega arith) (omega arith))
+    (λ e. let w = within-true (d + 1) (d + callDays) t e in recent-in _ _ (omega arith) (omega arith) (omega arith))
 
 or-twice : (a b : Bool) → (a || (a || b)) ≡ (a || b)
 or-twice true b = refl
@@ -55,7 +56,7 @@ calls-kept (e ∷ h) s = kept-after (collectionOf h .calls) e (lastPosted h) (s 
 
 -- one event, without lists
 step : (c : Calls) (e : Event) (day t : ℕ) → CallsKept c day → day ≤ e .day → e .day ≤ t
-    → calledBy (callsAfter c e) t ≡ ((is call e && within (e .day + 1) (e .day + 3) t) || calledBy c t)
+    → calledBy (callsAfter c e) t ≡ ((is call e && within (e .day + 1) (e .day + callDays) t) || calledBy c t)
 step c e day t k d l =
     on (is call e)
     (λ q. on-eq (c .last) (e .day + 1)

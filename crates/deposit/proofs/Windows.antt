@@ -30,8 +30,8 @@ recent-now d t l = simp (le-leb d t l)
 year-more : (a b t : ℕ) → a ≤ b → inYearBy a t ≡ true → inYearBy b t ≡ true
 unfolding inYearBy
 year-more a b t l e =
-    and-both (leb 1 b) (leb t (b + 363)) (le-leb 1 b (omega (arith, leb-true 1 a (and-left (leb 1 a) _ e))))
-    (le-leb t (b + 363) (omega (arith, leb-true t (a + 363) (and-right (leb 1 a) _ e))))
+    and-both (leb 1 b) (leb t (b + (year - 2))) (le-leb 1 b (omega (arith, leb-true 1 a (and-left (leb 1 a) _ e))))
+    (le-leb t (b + (year - 2)) (omega (arith, leb-true t (a + (year - 2)) (and-right (leb 1 a) _ e))))
 
 year-day : (d t : ℕ) → inYearBy (d + 1) t ≡ leb t (d + (year - 1))
 unfolding inYearBy
