@@ -1,7 +1,8 @@
--- Our own cases: both sides of every bound of the rules. Document 01's examples alone pin the rules weakly.
+-- Our own cases: both sides of every bound of the rules. The papers' examples alone pin the rules weakly.
 use Prim.Native.Nat.{ℕ}
 use mathlib.Core.List.{List, [], _∷_, _++_}
 use Rattle.rules.specs.declared.Event.{Event}
+use Rattle.rules.specs.Tariff.{noLine}
 use Rattle.rules.proofs.Events.{
   event,
   bill,
@@ -38,6 +39,11 @@ use Rattle.rules.proofs.Events.{
   Case,
   ends,
   shows,
+  gives,
+  bills,
+  unbilled,
+  uses,
+  prices,
 }
 use Rattle.rules.proofs.Paper.{b, d}
 
@@ -458,6 +464,65 @@ limits =
     ∷ ends "a deposit paid has no limit of its own" (rich ++ (payment 0 10000000000 ∷ askedDeposit 0 9 ∷ paid 0 9 ∷ [])) 0
     ∷ []
 
+abbrev readings : List Case
+readings =
+    bills "class 1: the basic charge" 1 0 1_031
+    ∷ bills "class 2: the basic charge" 2 0 1_229
+    ∷ bills "class 3: the basic charge" 3 0 2_218
+    ∷ bills "class 1: one kilowatt-hour" 1 1 1_038
+    ∷ bills "class 2: one kilowatt-hour" 2 1 1_237
+    ∷ bills "class 3: one kilowatt-hour" 3 1 2_226
+    ∷ bills "class 1: half a cent up" 1 50 1_397
+    ∷ bills "class 1: 49 hundredths down" 1 79 1_608
+    ∷ bills "class 2: half a cent up" 2 50 1_613
+    ∷ bills "class 2: 49 hundredths down" 2 47 1_589
+    ∷ bills "class 3: half a cent up" 3 50 2_602
+    ∷ bills "class 3: 49 hundredths down" 3 47 2_578
+    ∷ bills "class 1 at 15,000: one price" 1 15_000 110_681
+    ∷ bills "class 1 at 15,001: one price" 1 15_001 110_688
+    ∷ bills "class 1 at 50,000: one price" 1 50_000 366_531
+    ∷ bills "class 1 at 50,001: one price" 1 50_001 366_538
+    ∷ bills "class 2 at 15,000: one price" 2 15_000 116_279
+    ∷ bills "class 2 at 15,001: one price" 2 15_001 116_287
+    ∷ bills "class 2 at 50,000: one price" 2 50_000 384_729
+    ∷ bills "class 2 at 50,001: one price" 2 50_001 384_737
+    ∷ bills "class 3 at 14,999" 3 14_999 117_260
+    ∷ bills "class 3 at 15,000" 3 15_000 117_268
+    ∷ bills "class 3 at 15,001" 3 15_001 117_274
+    ∷ bills "class 3 at 49,999" 3 49_999 343_712
+    ∷ bills "class 3 at 50,000" 3 50_000 343_718
+    ∷ bills "class 3 at 50,001" 3 50_001 343_723
+    ∷ bills "class 1: the most usage" 1 10_000_000 73_101_031
+    ∷ bills "class 2: the most usage" 2 10_000_000 76_701_229
+    ∷ bills "class 3: the most usage" 3 10_000_000 46_810_218
+    ∷ unbilled "class 1: one more" 1 10_000_001 23
+    ∷ unbilled "class 2: one more" 2 10_000_001 23
+    ∷ unbilled "class 3: one more" 3 10_000_001 23
+    ∷ unbilled "class 0" 0 0 23
+    ∷ unbilled "class 4" 4 0 23
+    ∷ unbilled "class 255" 255 0 23
+    ∷ unbilled "class 0 and too much" 0 10_000_001 23
+    ∷ unbilled "the largest usage" 1 18_446_744_073_709_551_615 23
+    ∷ unbilled "the most usage: no number" 1 10_000_000 0
+    ∷ bills "class 4: no cents" 4 0 0
+    ∷ uses "class 1 at 50,001: a line for each block" 1 50_001 (15_000 ∷ 35_000 ∷ 1 ∷ [])
+    ∷ uses "class 2 at 50,001: a line for each block" 2 50_001 (15_000 ∷ 35_000 ∷ 1 ∷ [])
+    ∷ uses "class 3 at 50,001: a line for each block" 3 50_001 (15_000 ∷ 35_000 ∷ 1 ∷ [])
+    ∷ uses "class 3 at 50,000: nothing in the last block" 3 50_000 (15_000 ∷ 35_000 ∷ 0 ∷ [])
+    ∷ uses "class 3 at 15,001: one in the second block" 3 15_001 (15_000 ∷ 1 ∷ 0 ∷ [])
+    ∷ uses "class 3 at 15,000: all in the first block" 3 15_000 (15_000 ∷ 0 ∷ 0 ∷ [])
+    ∷ uses "the most usage: the lines" 1 10_000_000 (15_000 ∷ 35_000 ∷ 9_950_000 ∷ [])
+    ∷ uses "no usage: the lines" 2 0 (0 ∷ 0 ∷ 0 ∷ [])
+    ∷ uses "too much usage: no lines" 3 10_000_001 []
+    ∷ uses "class 4: no lines" 4 0 []
+    ∷ prices "class 1: its prices" 1 0 (731 ∷ 731 ∷ 731 ∷ [])
+    ∷ prices "class 2: its prices" 2 50_001 (767 ∷ 767 ∷ 767 ∷ [])
+    ∷ prices "class 3: its prices" 3 10_000_000 (767 ∷ 647 ∷ 467 ∷ [])
+    ∷ gives "past the last line: no kilowatt-hours" (noLine .used) 0
+    ∷ gives "past the last line: no price" (noLine .price) 0
+    ∷ []
+
 abbrev pub edges : List Case
 edges =
-    days ++ (ranges ++ (charges ++ (receipts ++ (deposits ++ (services ++ (payouts ++ (notices ++ (certificates ++ (arrangements ++ limits)))))))))
+    readings
+    ++ (days ++ (ranges ++ (charges ++ (receipts ++ (deposits ++ (services ++ (payouts ++ (notices ++ (certificates ++ (arrangements ++ limits))))))))))

@@ -1,8 +1,8 @@
--- Events by name, day first, and what a case of the marked list asks of a list of them.
+-- Events by name, day first, and what a case of the marked list asks of a list of them, or of a reading.
 use Prim.Native.Nat.{ℕ, zero, suc, _+_, _-_}
 use Prim.Native.String.{String}
-use mathlib.Core.Bool.{cond}
-use mathlib.Core.List.{List, [], _∷_, _++_}
+use mathlib.Core.Bool.{Bool, true, false, cond, _&&_}
+use mathlib.Core.List.{List, [], _∷_, _++_, map}
 use lib.Dec.{eqb}
 use lib.ListN.{length, getD}
 use Rattle.rules.specs.declared.Event.{Event}
@@ -18,6 +18,7 @@ use Rattle.rules.specs.Medical as medical
 use Rattle.rules.specs.Arrangement.{inForce}
 use Rattle.rules.specs.Answer.{numberOf, receiptOf}
 use Rattle.rules.specs.Accepted.{accepted, answersBy}
+use Rattle.rules.specs.Tariff.{billOf, billNumber, billCents, billLines}
 
 -- ---- events
 abbrev pub event : ℕ → ℕ → ℕ → ℕ → Event
@@ -152,6 +153,30 @@ ends s es n = record { name = s; events = es; asks = number; expected = n }
 
 abbrev pub shows : String → (List Event → ℕ) → List Event → ℕ → Case
 shows s f es n = record { name = s; events = es; asks = f; expected = n }
+
+-- what is worked out without events
+abbrev pub gives : String → ℕ → ℕ → Case
+gives s found n = record { name = s; events = []; asks = λ es. found; expected = n }
+
+-- the cents of the bill of a class and a usage, and the number that refuses one
+abbrev pub bills : String → ℕ → ℕ → ℕ → Case
+bills s class usage n = gives s (billCents (billOf class usage)) n
+
+abbrev pub unbilled : String → ℕ → ℕ → ℕ → Case
+unbilled s class usage n = gives s (billNumber (billOf class usage)) n
+
+abbrev same : List ℕ → List ℕ → Bool
+same [] [] = true
+same [] (y ∷ ys) = false
+same (x ∷ xs) [] = false
+same (x ∷ xs) (y ∷ ys) = eqb x y && same xs ys
+
+-- the kilowatt-hours, and the prices, of the lines of such a bill
+abbrev pub uses : String → ℕ → ℕ → List ℕ → Case
+uses s class usage ns = gives s (cond (same (map (λ l. l .used) (billLines class usage)) ns) 1 0) 1
+
+abbrev pub prices : String → ℕ → ℕ → List ℕ → Case
+prices s class usage ns = gives s (cond (same (map (λ l. l .price) (billLines class usage)) ns) 1 0) 1
 
 -- the names of the cases that do not hold
 abbrev pub wrong : List Case → List String

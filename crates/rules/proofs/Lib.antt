@@ -9,6 +9,7 @@ pub mod Bounds
 pub mod Cut
 pub mod Events
 pub mod Paper
+pub mod Tickets
 pub mod Edges
 pub mod Orders
 pub mod Marked

@@ -14,3 +14,4 @@ pub mod Table
 pub mod Answer
 pub mod Accepted
 pub mod Sums
+pub mod Tariff

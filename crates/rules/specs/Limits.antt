@@ -73,3 +73,11 @@ mostParts = 6
 
 abbrev pub partDays : ℕ
 partDays = 30
+
+-- a bill is worked out for classes from 1 to this one
+abbrev pub lastClass : ℕ
+lastClass = 3
+
+-- and for at most so many kilowatt-hours
+abbrev pub mostUsage : ℕ
+mostUsage = 10_000_000

@@ -1,4 +1,4 @@
-// The words of the rules: an event, the service, an answer, a charge, and what the table of refusals looks at.
+// The words of the rules: an event, the service, an answer, a charge, what the table of refusals looks at, and the bill of a reading.
 // The rules themselves are in specs/, over lists of events alone; the table as code is the crate `table`.
 pub mod kinds;
 pub mod limits;
@@ -67,6 +67,22 @@ pub struct View {
     pub approved: bool,
     // how many items are open
     pub open_count: u64,
+}
+
+// A block of a schedule, its limit and its price: the usage from the limit of the block before it up to its own costs so many
+// hundredths of a cent for each kilowatt-hour.
+pub struct Block(pub u64, pub u64);
+
+// A line of a bill: so many kilowatt-hours, at the price of their block.
+pub struct Line {
+    pub used: u64,
+    pub price: u64,
+}
+
+// The bill of a reading: its cents, or refused with a number of the table.
+pub enum Billed {
+    Cents(u64),
+    Refused(u8),
 }
 
 impl Service {

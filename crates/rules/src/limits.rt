@@ -47,3 +47,8 @@ pub const LEAST_PARTS: u8 = 2;
 pub const MOST_PARTS: u8 = 6;
 
 pub const PART_DAYS: u64 = 30;
+
+// A bill is worked out for classes from 1 to this one, and for at most so many kilowatt-hours.
+pub const LAST_CLASS: u8 = 3;
+
+pub const MOST_USAGE: u64 = 10_000_000;
