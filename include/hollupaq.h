@@ -1,7 +1,7 @@
 /*
  * Hollupaq: the standing of utility accounts, from a book file in memory, or of
  * an account that the caller keeps and posts to, one event at a time; and book
- * files made of account lists, and read back.
+ * files made of account lists, and read back; and the bill of a meter reading.
  *
  * The functions are those of the proved core in libhollupaq.a. Only pointers
  * with lengths, and numbers, cross the boundary. The functions keep no state
@@ -36,11 +36,11 @@ extern "C" {
 #endif
 
 /*
- * The version of this header, major * 10000 + minor * 100 + patch: 1.0.0. The
+ * The version of this header, major * 10000 + minor * 100 + patch: 1.1.0. The
  * library's own is told by hollupaq_version; where they differ, the header is
  * not of this library.
  */
-#define HOLLUPAQ_VERSION 10000
+#define HOLLUPAQ_VERSION 10100
 
 uint64_t hollupaq_version(void);
 
@@ -78,7 +78,8 @@ enum {
     HOLLUPAQ_REFUSED_TOTAL = 19,        /* charges or payments pass the limit */
     HOLLUPAQ_REFUSED_BOOK = 20,         /* length, header or table is wrong */
     HOLLUPAQ_REFUSED_RECORD = 21,       /* unknown kind or spare bytes not 0 */
-    HOLLUPAQ_REFUSED_TOO_SHORT = 22     /* the memory lent is too short */
+    HOLLUPAQ_REFUSED_TOO_SHORT = 22,    /* the memory lent is too short */
+    HOLLUPAQ_REFUSED_READING = 23       /* no such class, or too much usage */
 };
 
 /* Service. A closed account is neither on nor off. */
@@ -343,7 +344,32 @@ uint64_t hollupaq_notice_live(const uint64_t *account, size_t words,
 uint64_t hollupaq_certified(const uint64_t *account, size_t words,
                             uint32_t day);
 
-/* What an answer tells for a day, 0 where the day is refused. */
+/*
+ * The bill of a reading: the cents that a customer of a class is charged for
+ * so many kilowatt-hours, which is the amount to be posted as HOLLUPAQ_BILL.
+ * The classes are 1 residential, 2 single phase, 3 three phase; the usage may
+ * be 0 to 10,000,000.
+ *
+ * Returns HOLLUPAQ_ACCEPTED and the cents added to it, or
+ * HOLLUPAQ_REFUSED_READING (23) for any other class or a larger usage.
+ */
+uint64_t hollupaq_bill(uint8_t rate_class, uint64_t usage);
+
+/*
+ * The lines of that bill, one for each block of the class's schedule, counted
+ * from 0: the kilowatt-hours that lie in the block, and their price in
+ * hundredths of a cent each. The lines fill up in order, and together they are
+ * the usage. Both numbers are 0 past the last line, and where the bill is
+ * refused.
+ *
+ * The bill of usage 0 is the basic charge. With the kilowatt-hours of each line
+ * at its price, added up and rounded to a whole cent, half a cent up, it makes
+ * the bill.
+ */
+uint64_t hollupaq_bill_used(uint8_t rate_class, uint64_t usage, size_t i);
+uint64_t hollupaq_bill_price(uint8_t rate_class, uint64_t usage, size_t i);
+
+/* What an answer tells, the cents of a bill too; 0 where it is a refusal. */
 static inline uint64_t hollupaq_told(uint64_t answer)
 {
     return answer >= HOLLUPAQ_ACCEPTED ? answer - HOLLUPAQ_ACCEPTED : 0;

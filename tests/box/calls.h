@@ -47,7 +47,12 @@
     CALL(2, uint64_t, hollupaq_arrears, (READ, uint64_t, account), (NUMBER, uint32_t, day)) \
     CALL(2, uint64_t, hollupaq_in_force, (READ, uint64_t, account), (NUMBER, uint32_t, day)) \
     CALL(2, uint64_t, hollupaq_notice_live, (READ, uint64_t, account), (NUMBER, uint32_t, day)) \
-    CALL(2, uint64_t, hollupaq_certified, (READ, uint64_t, account), (NUMBER, uint32_t, day))
+    CALL(2, uint64_t, hollupaq_certified, (READ, uint64_t, account), (NUMBER, uint32_t, day)) \
+    CALL(2, uint64_t, hollupaq_bill, (NUMBER, uint8_t, rate_class), (NUMBER, uint64_t, usage)) \
+    CALL(3, uint64_t, hollupaq_bill_used, (NUMBER, uint8_t, rate_class), (NUMBER, uint64_t, usage), \
+         (NUMBER, size_t, i)) \
+    CALL(3, uint64_t, hollupaq_bill_price, (NUMBER, uint8_t, rate_class), (NUMBER, uint64_t, usage), \
+         (NUMBER, size_t, i))
 
 /* The most parameters of a function, and `each` of them with its place. */
 #define MOST 6

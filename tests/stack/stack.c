@@ -44,8 +44,9 @@ static size_t accounts_count, records_count;
 static uint8_t numbers[RECORDS];
 static int64_t owed[RECORDS];
 static uint64_t account[HOLLUPAQ_WORDS], kept[KEPT * HOLLUPAQ_WORDS];
-static size_t at;      /* an account, or an open item */
+static size_t at;      /* an account, an open item, or a line of a bill */
 static size_t record;  /* the event that is posted */
+static uint64_t usage; /* of a reading */
 static uint64_t answer;
 
 #define OF_BOOK book, book_len
@@ -86,7 +87,10 @@ static uint64_t answer;
     F(arrears, hollupaq_arrears(OF_ACCOUNT, days[record])) \
     F(in_force, hollupaq_in_force(OF_ACCOUNT, days[record])) \
     F(notice_live, hollupaq_notice_live(OF_ACCOUNT, days[record])) \
-    F(certified, hollupaq_certified(OF_ACCOUNT, days[record]))
+    F(certified, hollupaq_certified(OF_ACCOUNT, days[record])) \
+    F(bill, hollupaq_bill(3, usage)) \
+    F(bill_used, hollupaq_bill_used(3, usage, at)) \
+    F(bill_price, hollupaq_bill_price(3, usage, at))
 
 #define CALL(name, call) \
     static void call_##name(void) { answer = (uint64_t)(call); }
@@ -200,6 +204,22 @@ static void look_at_book(void)
         fail("a book is not written back");
 }
 
+/* Bills with usage in each block, and one that is refused. */
+static void look_at_bills(void)
+{
+    static const uint64_t usages[] = {0, 15000, 60000, 10000000, 10000001};
+    size_t i;
+
+    for (i = 0; i < sizeof usages / sizeof usages[0]; i++) {
+        usage = usages[i];
+        measure(THE_bill);
+        for (at = 0; at < 4; at++) {
+            measure(THE_bill_used);
+            measure(THE_bill_price);
+        }
+    }
+}
+
 /* A book of 65,536 bytes: all kinds but the last in turn, a day for each. */
 static void make_book(size_t accounts)
 {
@@ -275,6 +295,7 @@ int main(int argc, char **argv)
     measure(THE_nothing);
     measure(THE_version);
     measure(THE_words);
+    look_at_bills();
     make_book(1);
     look_at_book();
     make_book(1023);

@@ -3,7 +3,7 @@
 use std::fs;
 use std::path::Path;
 use tools::core::lent::{self, ACCEPTED, WORDS};
-use tools::core::{self, books, Account};
+use tools::core::{self, bills, books, Account};
 use tools::event::Event;
 use tools::kinds::KINDS;
 use tools::text;
@@ -56,7 +56,7 @@ fn every_refusal_has_one_name() {
         .into_iter()
         .map(|(_, number)| number)
         .collect();
-    assert_eq!(numbers, (0..=22).collect::<Vec<u64>>());
+    assert_eq!(numbers, (0..=23).collect::<Vec<u64>>());
 }
 
 #[test]
@@ -71,7 +71,7 @@ fn readme_has_every_refusal_once() {
         .lines()
         .filter_map(|line| line.strip_prefix("| ")?.split(' ').next()?.parse().ok())
         .collect();
-    assert_eq!(numbers, (1..=22).collect::<Vec<u64>>());
+    assert_eq!(numbers, (1..=23).collect::<Vec<u64>>());
 }
 
 /// For each name of a rule, a history whose last event it refuses, as the text of a book has it.
@@ -142,6 +142,14 @@ fn a_name_says_why_a_book_is_refused() {
     assert_eq!(too_short, refused("TOO_SHORT"));
     book[16] = 17; // the kind of the record
     assert_eq!(core::history(&book, 0).map(|_| ()), refused("RECORD"));
+}
+
+#[test]
+fn a_name_says_why_there_is_no_bill() {
+    let refused = Err(number("REFUSED_READING") as u8);
+    assert_eq!(bills::bill(0, 0), refused);
+    assert_eq!(bills::bill(1, 10_000_001), refused);
+    assert_eq!(bills::bill(1, 10_000_000), Ok(73_101_031));
 }
 
 /// The names are those of the words that a text has for the kinds.

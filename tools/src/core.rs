@@ -1,5 +1,6 @@
 //! The proved core, called through its static library (`rt staticlib hollupaq`).
 mod account;
+pub mod bills;
 pub mod books;
 pub mod lent;
 
@@ -21,7 +22,7 @@ extern "C" {
 }
 
 /// The version that these declarations are of, as include/hollupaq.h has it.
-pub const VERSION: u64 = 10_000;
+pub const VERSION: u64 = 10_100;
 
 /// The longest header line of a report, and the longest line of an account.
 const REPORT_HEADER: usize = 39;

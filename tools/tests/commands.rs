@@ -5,7 +5,7 @@ use run::{complaint, folder, pack, printed, run, run_words, TEXT};
 use std::fs;
 use tools::core;
 
-const COMMANDS: [&str; 4] = ["why", "pack", "unpack", "standing"];
+const COMMANDS: [&str; 5] = ["why", "bill", "pack", "unpack", "standing"];
 
 #[test]
 fn help_is_printed_where_it_is_asked_for() {
@@ -47,9 +47,9 @@ fn each_command_has_a_help_of_its_own() {
 
 #[test]
 fn the_version_is_the_library_s() {
-    assert_eq!(core::version(), 10_000);
+    assert_eq!(core::version(), 10_100);
     for words in ["--version", "-V"] {
-        assert_eq!(printed(run(words, b"")), "hollupaq 1.0.0\n");
+        assert_eq!(printed(run(words, b"")), "hollupaq 1.1.0\n");
     }
 }
 
@@ -60,7 +60,7 @@ fn without_arguments_the_help_is_a_complaint() {
 }
 
 /// The usage of each command, and of the command without one.
-const USAGES: [(&str, &str); 5] = [
+const USAGES: [(&str, &str); 6] = [
     (
         "hollupaq",
         "hollupaq COMMAND ..   (`hollupaq help` lists the commands)",
@@ -69,6 +69,7 @@ const USAGES: [(&str, &str); 5] = [
         "hollupaq why",
         "hollupaq why BOOK [N] [--on DAY | --try 'DAY EVENT ..' | --csv]",
     ),
+    ("hollupaq bill", "hollupaq bill CLASS USAGE"),
     ("hollupaq pack", "hollupaq pack TEXT [BOOK]"),
     ("hollupaq unpack", "hollupaq unpack BOOK [TEXT]"),
     ("hollupaq standing", "hollupaq standing BOOK"),
@@ -89,6 +90,12 @@ why - --csv=1 => hollupaq why: nothing follows --csv
 why - --csv --csv => hollupaq why: --csv is given twice
 why - --csv --on 5 => hollupaq why: --csv and --on do not go together
 why - one => hollupaq why: N is the number of an account, 0 or more, and not `one`
+bill => hollupaq bill: CLASS is missing
+bill 1 => hollupaq bill: USAGE is missing
+bill 1 2 3 => hollupaq bill: `3` is one word too many
+bill home 5 => hollupaq bill: CLASS is the number of a class, 0 or more, and not `home`
+bill 1 60,000 => hollupaq bill: USAGE is a number of kilowatt-hours, 0 or more, and not `60,000`
+bill 1 18446744073709551616 => hollupaq bill: USAGE is a number of kilowatt-hours, 0 or more, and not `18446744073709551616`
 pack => hollupaq pack: TEXT is missing
 pack a b c => hollupaq pack: `c` is one word too many
 unpack => hollupaq unpack: BOOK is missing
@@ -115,6 +122,21 @@ fn control_bytes_of_a_call_are_shown_by_their_numbers() {
     assert!(told.starts_with("hollupaq why: can't read no\\u{7}\\nfile: "));
     let told = complaint(&run_words(&["why", ""], b""), 1);
     assert!(told.starts_with("hollupaq why: can't read '': "), "{told}");
+}
+
+#[test]
+fn a_bill_is_worked_out_and_a_reading_refused() {
+    let told = printed(run("bill 1 1000", b""));
+    assert_eq!(told, tools::bill::tell(1, 1_000));
+    assert!(told.ends_with(": DAY bill 8341\n"), "{told}");
+    // The amount that is told is the one of the bill that is posted.
+    let book = pack(b"account\n  100 bill 8341\n");
+    let standing = printed(run("standing -", &book));
+    assert!(standing.ends_with("\n0 8341 0 1 on 0\n"), "{standing}");
+    for words in ["bill 4 0", "bill 257 1000", "bill 1 10000001"] {
+        let told = printed(run(words, b""));
+        assert!(told.contains("\n\nrefused 23: the class "), "{told}");
+    }
 }
 
 #[test]

@@ -1,12 +1,17 @@
 -- What the library tells: the number that refuses, or a value.
 use Prim.Native.Nat.{ℕ, zero, suc, _+_, _≤_}
-use mathlib.Core.Path.{_≡_, refl, sym, _∙_}
-use mathlib.Core.Bool.{Bool, true, false, cond, true≢false}
+use mathlib.Core.Path.{_≡_, refl, ap, sym, _∙_}
+use mathlib.Core.Bool.{Bool, true, false, cond, true≢false, false≢true}
 use mathlib.Core.List.{List}
 use native.Mathlib.Omega.{arith}
 use lib.Dec.{leb, eqb}
 use lib.ListN.{length}
-use Rattle.rules.specs.Limits.{limit}
+use Rattle.basics.proofs.Cases.{on-eq}
+use Rattle.rules.specs.Limits.{limit, mostAmount}
+use Rattle.rules.specs.declared.Billed.{Billed}
+use Rattle.rules.specs.declared.Billed.the-variants as bill
+use Rattle.rules.specs.Tariff.{centsOf, billRefusal, billOf, billNumber, billCents}
+use Rattle.tariff.proofs.Law.{allowed, in-range}
 use Rattle.bookformat.specs.Book.{size}
 use Rattle.bookformat.specs.Lent.{sizesFine, kindsFine, writeRefusal, WroteBook}
 use Rattle.bookformat.specs.Facts.{Sizes}
@@ -41,6 +46,36 @@ pub said-word : (x : Truth) (n : ℕ) (b : Bool) → Says x n b → truthWord x 
 said-word truth.Yes n b s = told-value n 1 (cond b 1 0) (sym (s .number)) (let z = rw (sym (s .told)) at (s .yes) in rw (sym z))
 said-word truth.No n b s = told-value n 0 (cond b 1 0) (sym (s .number)) (let z = rw (sym (s .told)) at (s .yes) in rw (sym z))
 said-word (truth.Refused x) n b s = s .number ∙ not-told n _ (s .told)
+
+-- ---- a bill
+abbrev isBill : Billed → Bool
+isBill (bill.Cents n) = true
+isBill (bill.Refused n) = false
+
+module _ (r x n : ℕ) where
+  cents-by : bill.Cents n ≡ cond (eqb r 0) (bill.Cents x) (bill.Refused r) → (r ≡ 0) × (n ≡ x)
+  cents-by e =
+      on-eq r 0 (λ q z. let f : bill.Cents n ≡ bill.Cents x = rw q at e in (z, ap billCents f))
+      (λ q h. let f : bill.Cents n ≡ bill.Refused r = rw q at e in absurd (h (sym (ap billNumber f))))
+
+  refused-by : bill.Refused n ≡ cond (eqb r 0) (bill.Cents x) (bill.Refused r) → n ≡ told r x
+  refused-by e =
+      on-eq r 0 (λ q z. let f : bill.Refused n ≡ bill.Cents x = rw q at e in absurd (false≢true (ap isBill f)))
+      (λ q h. let f : bill.Refused n ≡ bill.Refused r = rw q at e in ap billNumber f ∙ told-number r x h)
+
+module _ (class usage n : ℕ) where
+  pub bill-small : bill.Cents n ≡ billOf class usage → n ≤ mostAmount
+  bill-small e =
+      let p = cents-by (billRefusal class usage) (centsOf class usage) n e in
+      omega (arith, p .1, in-range class usage (allowed class usage (p .0)))
+
+  pub bill-told : bill.Cents n ≡ billOf class usage → 256 + n ≡ told (billRefusal class usage) (centsOf class usage)
+  bill-told e =
+      let p = cents-by (billRefusal class usage) (centsOf class usage) n e in
+      told-value (billRefusal class usage) n (centsOf class usage) (p .0) (p .1)
+
+  pub bill-not : bill.Refused n ≡ billOf class usage → n ≡ told (billRefusal class usage) (centsOf class usage)
+  bill-not e = refused-by (billRefusal class usage) (centsOf class usage) n e
 
 -- ---- a list that was written with this number
 module _ (cs ks os ds ms old new : List ℕ) (n : ℕ) (w : WroteBook cs ks os ds ms old new n) where

@@ -26,9 +26,9 @@ use Rattle.claim.specs.Run.{LeftBy}
 use Rattle.claim.specs.Claim.{ClaimOf}
 use Rattle.report.specs.Report.{printLength, printedIn}
 
--- version 1.0.0: ten thousands, hundreds and ones
+-- version 1.1.0: ten thousands, hundreds and ones
 abbrev pub libraryVersion : ℕ
-libraryVersion = 10000
+libraryVersion = 10100
 
 -- under 256 the number that refuses; where none does, 256 and the value asked for
 abbrev pub told : ℕ → ℕ → ℕ

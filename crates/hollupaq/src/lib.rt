@@ -1,4 +1,5 @@
 // The core for programs in other languages: a static library with plain names. include/hollupaq.h says the same in C.
+mod bills;
 mod books;
 mod days;
 mod kept;
@@ -12,7 +13,7 @@ ghost use Rattle.hollupaq.specs.Library.{libraryVersion, Written};
 
 // The version of the library: 10,000 for each change that a program has to be changed for, 100 for each that adds something, 1 for each
 // that only mends. include/hollupaq.h has the same number.
-const VERSION: u64 = 10_000;
+const VERSION: u64 = 10_100;
 
 // What is answered from here on is accepted, or told: 256 and the value. Below it stands the number that refuses.
 const ACCEPTED: u64 = 256;
