@@ -1,5 +1,6 @@
 //! What the tools, the tests and the benchmark share: events, service, the readable text of a book, and the proved core.
 
+pub mod bill;
 pub mod columns;
 pub mod core;
 pub mod csv;

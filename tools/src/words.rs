@@ -1,9 +1,9 @@
-//! Words for the support desk: what a number means, what an event is, money.
+//! Words for the support desk: what a number means, what an event is, a customer's class, money.
 use crate::event::Event;
 use crate::kinds::{self, Named};
 
 /// What number n means stands at n - 1.
-const MEANINGS: [&str; 22] = [
+const MEANINGS: [&str; 23] = [
     "the day is after 31 December 2199",
     "the day is before that of the last accepted event",
     "a field of the event is out of its range, or set where it should be 0",
@@ -26,6 +26,7 @@ const MEANINGS: [&str; 22] = [
     "the book's length, its header or its table of accounts is wrong",
     "a record of the book has an unknown kind, or spare bytes that are not 0",
     "the memory lent is too short",
+    "the class is not 1 to 3, or the usage is over 10,000,000 kWh",
 ];
 
 /// Why a book is refused, as the commands say it.
@@ -73,6 +74,16 @@ pub fn added(kind: u8) -> &'static str {
         12 => "final notice fee",
         15 => "reconnection fee",
         _ => "fee",
+    }
+}
+
+/// Whose a class is, where there is such a class.
+pub fn class(class: u8) -> Option<&'static str> {
+    match class {
+        1 => Some("residential"),
+        2 => Some("single phase"),
+        3 => Some("three phase"),
+        _ => None,
     }
 }
 
@@ -156,14 +167,14 @@ mod tests {
         // The first words of each, in the order of the numbers.
         let beginnings = "the day is after; the day is before; a field; the account; service; there is no such; the sum; \
             the deposit; nothing; the arrears; a final; no live; no call; a payment; a medical; there are; less; 64 charges; \
-            charges or; the book's; a record; the memory";
-        for (beginning, number) in beginnings.split("; ").zip(1..=22) {
+            charges or; the book's; a record; the memory; the class";
+        for (beginning, number) in beginnings.split("; ").zip(1..=23) {
             let begins_so = |number: &u8| meaning(*number).starts_with(beginning);
-            let found: Vec<u8> = (0..=23).filter(begins_so).collect();
+            let found: Vec<u8> = (0..=24).filter(begins_so).collect();
             assert_eq!(found, [number], "{beginning}");
         }
         assert_eq!(meaning(0), "no number of the table");
-        assert_eq!(meaning(23), meaning(0));
+        assert_eq!(meaning(24), meaning(0));
     }
 
     #[test]

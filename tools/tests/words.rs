@@ -2,11 +2,12 @@
 mod common;
 
 use common::last_answer;
+use tools::core::bills::bill;
 use tools::core::Answer;
 use tools::dates::{date, LAST_DAY};
 use tools::event::Event;
 use tools::kinds::{Named, KINDS};
-use tools::words::meaning;
+use tools::words::{self, meaning};
 
 const ACCEPTED: Answer = Answer::Accepted(0);
 
@@ -98,6 +99,20 @@ fn the_days_for_a_call_are_the_core_s() {
         .collect();
     assert_eq!(days, [22, 23, 24]);
     assert_eq!(meaning(13), "no call on the three days before");
+}
+
+#[test]
+fn the_classes_and_the_most_usage_are_the_core_s() {
+    let [first, last, most] = numbers(meaning(23))[..] else {
+        panic!("{}", meaning(23));
+    };
+    for class in 0..=u8::MAX {
+        let known = (first..=last).contains(&u64::from(class));
+        let expected = if known { None } else { Some(23) };
+        assert_eq!(bill(class, most).err(), expected, "class {class}");
+        assert_eq!(words::class(class).is_some(), known, "class {class}");
+        assert_eq!(bill(class, most + 1), Err(23), "class {class}");
+    }
 }
 
 #[test]

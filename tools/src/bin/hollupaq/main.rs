@@ -1,6 +1,7 @@
 //! The support desk's command, `hollupaq COMMAND ..`. It ends with 0, with 1 where something failed, and with 2 where it was
 //! called wrongly.
 mod arguments;
+mod bill;
 mod command;
 mod files;
 mod help;
@@ -17,8 +18,9 @@ use std::process::ExitCode;
 use tools::shown::shown;
 
 /// Every command: one entry here, and a file of its own beside this one.
-const COMMANDS: [Command; 4] = [
+const COMMANDS: [Command; 5] = [
     why::COMMAND,
+    bill::COMMAND,
     pack::COMMAND,
     unpack::COMMAND,
     standing::COMMAND,
