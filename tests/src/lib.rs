@@ -13,6 +13,7 @@ pub mod make;
 pub mod peer;
 pub mod program;
 pub mod random;
+pub mod readings;
 pub mod seeds;
 pub mod show;
 pub mod shrink;

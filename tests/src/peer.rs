@@ -12,6 +12,7 @@ pub mod medical;
 pub mod money;
 pub mod receipts;
 pub mod rows;
+pub mod tariff;
 #[cfg(test)]
 mod tests;
 pub mod writer;

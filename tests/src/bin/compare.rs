@@ -16,6 +16,7 @@ use tests::lists::Lists;
 use tests::peer;
 use tests::program::{self, Feed};
 use tests::random::Random;
+use tests::readings::Readings;
 use tests::seeds::{self, Share};
 use tests::tally::{Group, Tally};
 
@@ -51,6 +52,7 @@ fn main() -> ExitCode {
         &mut tally,
         "short books and books of many accounts by the library",
     );
+    Readings::compared(&shares, wanted.part).tell(&mut tally);
     by_program(&wanted.program, &shares, &mut tally);
     if tally.finish() {
         ExitCode::SUCCESS

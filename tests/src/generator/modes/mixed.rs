@@ -3,14 +3,17 @@ use super::{ALL, COLLECTION};
 use crate::generator::Writer;
 use crate::make::*;
 use crate::peer::kind::*;
-use crate::peer::LAST_DAY;
+use crate::peer::{tariff, LAST_DAY};
 
+/// Each month's bill is that of a reading.
 pub fn months(w: &mut Writer) {
     let first = w.random.below(400) as u32;
     let count = w.random.between(70, 80) as u32;
     for month in 0..count {
         let day = (first + 30 * month).max(w.today());
-        let amount = w.random.between(1, 30_000);
+        let class = w.random.pick(&tariff::CLASSES);
+        let usage = w.random.below(4_000);
+        let amount = tariff::bill(class, usage).expect("a reading in range");
         w.post(bill(day, amount));
         match w.random.below(6) {
             0 => {}
