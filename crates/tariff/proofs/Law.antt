@@ -1,25 +1,24 @@
--- The laws of a bill: it grows strictly with the usage, it is in the range of a bill's amount, and its lines hold the whole usage.
+-- The laws of a bill: it grows strictly with the usage, it is in the range of a bill's amount, and its lines hold the whole usage, in order.
 use Prim.Native.Nat.{ℕ, _-_, _≤_, _<_}
 use mathlib.Core.Path.{_≡_, refl, _∙_}
 use mathlib.Core.Bool.{Bool, true, false, cond, _&&_}
 use mathlib.Core.List.{List, [], _∷_}
 use native.Mathlib.Omega.{arith}
 use lib.Dec.{leb, eqb}
-use lib.ListN.{length}
+use lib.ListN.{length, getD}
 use borrow.Author.Tests.{leb-true, eqb-true}
 use Rattle.basics.specs.Lists.{every}
 use Rattle.basics.proofs.Cases.{and-both, Each, links}
 use Rattle.basics.proofs.Lists.{every-in}
 use Rattle.rules.specs.declared.Block.{Block}
-use Rattle.rules.specs.declared.Event.{Event}
 use Rattle.rules.specs.Kinds as kinds
 use Rattle.rules.specs.Limits.{mostAmount, lastClass, mostUsage}
 use Rattle.rules.specs.History.{within}
 use Rattle.rules.specs.Range.{inRange}
-use Rattle.rules.specs.Tariff.{basicCharges, schedules, linesFrom, energyBy, rowOf, basicOf, centsOf, isClass, billRefusal}
+use Rattle.rules.specs.Tariff.{basicCharges, schedules, linesFrom, energyBy, rowOf, basicOf, centsOf, isClass, billRefusal, noLine}
 use Rattle.rules.proofs.Days.{within-in}
 use Rattle.tariff.specs.Allowed.{Allowed}
-use Rattle.tariff.proofs.Rows.{lines-length, steepFrom, growth, usedIn, all-used}
+use Rattle.tariff.proofs.Rows.{lines-length, steepFrom, growth, empty-behind, usedIn, all-used}
 
 -- what no energy sum passes, in hundredths of a cent, and no basic charge, in cents: far from the end of 64 bits and of a bill's amount
 abbrev pub mostEnergy : ℕ
@@ -89,6 +88,10 @@ module _ (class usage : ℕ) (a : Allowed class usage) where
 
   pub three-lines : length (linesFrom 0 (rowOf class) usage) ≡ 3
   three-lines = lines-length 0 (rowOf class) usage ∙ eqb-true (length (rowOf class)) 3 (row-facts .1 .1 .0)
+
+  -- the lines fill up in order: where one is empty, so are those behind it
+  pub in-order : (i j : ℕ) → i ≤ j → getD (linesFrom 0 (rowOf class) usage) i noLine .used ≡ 0 → getD (linesFrom 0 (rowOf class) usage) j noLine .used ≡ 0
+  in-order i j l z = empty-behind 0 (rowOf class) usage i j (row-facts .0) l z
 
   -- the kilowatt-hours of the lines are the usage
   pub whole : usedIn (linesFrom 0 (rowOf class) usage) ≡ usage

@@ -6,10 +6,10 @@ use mathlib.Core.List.{List, [], _∷_, map}
 use native.Mathlib.Nat.{mul-add, mul-le-mul-right, not-suc-le-zero, le-of-suc-le-suc}
 use native.Mathlib.Numerals.{add-one}
 use native.Mathlib.Omega.{arith}
-use lib.Dec.{leb}
+use lib.Dec.{leb, ltb}
 use lib.ListN.{length, getD, drop, length-map}
 use lib.Seq.{drop-cons}
-use borrow.Author.Tests.{leb-true}
+use borrow.Author.Tests.{leb-true, ltb-true}
 use Rattle.basics.proofs.Cases.{links}
 use Rattle.rules.specs.declared.Block.{Block}
 use Rattle.rules.specs.declared.Line.{Line}
@@ -62,10 +62,16 @@ turn lines sum i whole l w = rw add-one (omega (arith, rw (drop-cons lines i noL
 -- a row that grows with every kilowatt-hour: the limits rise up to the most usage, each price is at least 100
 abbrev pub steepFrom : ℕ → List Block → Bool
 steepFrom from [] = leb mostUsage from
-steepFrom from (b ∷ row) = leb from (limitOf b) && leb 100 (priceOf b) && steepFrom (limitOf b) row
+steepFrom from (b ∷ row) = ltb from (limitOf b) && leb 100 (priceOf b) && steepFrom (limitOf b) row
+
+steep-parts : (from : ℕ) (b : Block) (row : List Block) → steepFrom from (b ∷ row) ≡ true
+    → (from < limitOf b) × (100 ≤ priceOf b) × (steepFrom (limitOf b) row ≡ true)
+steep-parts from b row s =
+    let f = links (ltb from (limitOf b)) (leb 100 (priceOf b) ∷ steepFrom (limitOf b) row ∷ []) s in
+    (ltb-true from (limitOf b) (f .0), leb-true 100 (priceOf b) (f .1 .0), f .1 .1 .0)
 
 -- the part of a usage in a block and what lies above the block are the usage from the block's start
-parts : (from to u : ℕ) → from ≤ to → (min u to - from) + (u - to) ≡ u - from
+parts : (from to u : ℕ) → from < to → (min u to - from) + (u - to) ≡ u - from
 parts from to u l = omega arith
 
 -- one block more: a and b are the parts in it of two usages, a' and b' what lies above it
@@ -82,13 +88,30 @@ module _ (u v : ℕ) (l : u ≤ v) (m : v ≤ mostUsage) where
       → energyOf (linesFrom from row u) + 100 * (v - from) ≤ energyOf (linesFrom from row v) + 100 * (u - from)
   growth from [] s = omega (arith, leb-true mostUsage from s)
   growth from (b ∷ row) s =
-      let f = links (leb from (limitOf b)) (leb 100 (priceOf b) ∷ steepFrom (limitOf b) row ∷ []) s in
-      let rises = leb-true from (limitOf b) (f .0) in
+      let f = steep-parts from b row s in
       block-more (priceOf b) (min u (limitOf b) - from) (min v (limitOf b) - from) (u - limitOf b) (v - limitOf b) (u - from) (v - from)
-      (energyOf (linesFrom (limitOf b) row u)) (energyOf (linesFrom (limitOf b) row v)) (leb-true 100 (priceOf b) (f .1 .0)) (omega arith)
-      (parts from (limitOf b) u rises) (parts from (limitOf b) v rises) (growth (limitOf b) row (f .1 .1 .0))
+      (energyOf (linesFrom (limitOf b) row u)) (energyOf (linesFrom (limitOf b) row v)) (f .1) (omega arith) (parts from (limitOf b) u (f .0))
+      (parts from (limitOf b) v (f .0)) (growth (limitOf b) row (f .2))
 
--- ---- the whole usage is in the lines
+-- ---- the whole usage is in the lines, in order
+-- a usage that ends where a row begins has nothing in it
+empty : (from : ℕ) (row : List Block) (u i : ℕ) → steepFrom from row ≡ true → u ≤ from → getD (linesFrom from row u) i noLine .used ≡ 0
+empty from [] u i s l = refl
+empty from (b ∷ row) u zero s l = omega arith
+empty from (b ∷ row) u (suc i) s l =
+    let f = steep-parts from b row s in
+    empty (limitOf b) row u i (f .2) (omega (arith, f .0))
+
+within-start : (from to u : ℕ) → from < to → min u to - from ≡ 0 → u ≤ from
+within-start from to u l z = omega arith
+
+pub empty-behind : (from : ℕ) (row : List Block) (u i j : ℕ) → steepFrom from row ≡ true → i ≤ j
+    → getD (linesFrom from row u) i noLine .used ≡ 0 → getD (linesFrom from row u) j noLine .used ≡ 0
+empty-behind from [] u i j s l z = refl
+empty-behind from (b ∷ row) u zero j s l z = empty from (b ∷ row) u j s (within-start from (limitOf b) u (steep-parts from b row s .0) z)
+empty-behind from (b ∷ row) u (suc i) zero s l z = absurd (not-suc-le-zero l)
+empty-behind from (b ∷ row) u (suc i) (suc j) s l z = empty-behind (limitOf b) row u i j (steep-parts from b row s .2) (le-of-suc-le-suc l) z
+
 abbrev pub usedIn : List Line → ℕ
 usedIn [] = 0
 usedIn (l ∷ ls) = l .used + usedIn ls
@@ -96,6 +119,5 @@ usedIn (l ∷ ls) = l .used + usedIn ls
 pub all-used : (from : ℕ) (row : List Block) (u : ℕ) → steepFrom from row ≡ true → u ≤ mostUsage → usedIn (linesFrom from row u) ≡ u - from
 all-used from [] u s m = omega (arith, leb-true mostUsage from s)
 all-used from (b ∷ row) u s m =
-    let f = links (leb from (limitOf b)) (leb 100 (priceOf b) ∷ steepFrom (limitOf b) row ∷ []) s in
-    ap (λ n. (min u (limitOf b) - from) + n) (all-used (limitOf b) row u (f .1 .1 .0) m)
-    ∙ parts from (limitOf b) u (leb-true from (limitOf b) (f .0))
+    let f = steep-parts from b row s in
+    ap (λ n. (min u (limitOf b) - from) + n) (all-used (limitOf b) row u (f .2) m) ∙ parts from (limitOf b) u (f .0)

@@ -34,9 +34,9 @@ impl Answer {
     }
 }
 
-/// What is told for a day: a number, or the one that refuses the day. That is 1 past the last day, 2 before the last
+/// What is told: a number, or the one that refuses the question. For a day that is 1 past the last day, 2 before the last
 /// accepted event, and 0 where no account was lent.
-fn told(number: u64) -> Result<u64, u8> {
+pub(super) fn told(number: u64) -> Result<u64, u8> {
     match Answer::of(number) {
         Answer::Accepted(told) => Ok(told),
         Answer::Refused(number) => Err(number),

@@ -1,5 +1,5 @@
 //! The bill of a reading, worked out by the library from a class and its kilowatt-hours.
-use super::lent::ACCEPTED;
+use super::account::told;
 
 extern "C" {
     fn hollupaq_bill(class: u8, usage: u64) -> u64;
@@ -20,11 +20,7 @@ pub struct Line {
 #[inline]
 pub fn bill(class: u8, usage: u64) -> Result<u64, u8> {
     // SAFETY: it takes two numbers, whatever they are.
-    let answer = unsafe { hollupaq_bill(class, usage) };
-    match u8::try_from(answer) {
-        Ok(number) => Err(number),
-        Err(_) => Ok(answer - ACCEPTED),
-    }
+    told(unsafe { hollupaq_bill(class, usage) })
 }
 
 /// Line `index` of the bill, counted from 0; of no kilowatt-hours past the last, and where the bill is refused.

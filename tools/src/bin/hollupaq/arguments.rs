@@ -2,6 +2,7 @@
 //! output and no option, and after `--` nothing is.
 use crate::command::Command;
 use std::ffi::{OsStr, OsString};
+use std::str::FromStr;
 use tools::shown::shown;
 
 /// An option of a command.
@@ -30,6 +31,15 @@ impl Given {
     /// The argument at a place, counted from 0.
     pub fn name(&self, at: usize) -> Option<&OsStr> {
         self.names.get(at).map(OsString::as_os_str)
+    }
+
+    /// The number at a place; `wanted` says which one should stand there.
+    pub fn number<T: FromStr>(&self, at: usize, wanted: &str) -> Result<T, String> {
+        let word = self.name(at).unwrap_or_default().to_string_lossy();
+        word.parse().map_err(|_| {
+            let word = shown(&word);
+            format!("{wanted}, 0 or more, and not `{word}`")
+        })
     }
 
     /// A file, standard input or output where none is named.

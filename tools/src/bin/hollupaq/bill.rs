@@ -3,7 +3,6 @@ use crate::arguments::Given;
 use crate::command::{Command, Wrong};
 use crate::standard;
 use tools::bill;
-use tools::shown::shown;
 
 pub const COMMAND: Command = Command {
     name: "bill",
@@ -20,15 +19,8 @@ hollupaq pack --help), or is tried (hollupaq why BOOK --try 'DAY bill CENTS').",
 };
 
 fn run(given: &Given) -> Result<(), Wrong> {
-    let class = number(given, 0, "CLASS is the number of a class")?;
-    let usage = number(given, 1, "USAGE is a number of kilowatt-hours")?;
+    let class = given.number(0, "CLASS is the number of a class");
+    let usage = given.number(1, "USAGE is a number of kilowatt-hours");
+    let (class, usage) = (class.map_err(Wrong::Call)?, usage.map_err(Wrong::Call)?);
     Ok(standard::print(bill::tell(class, usage).as_bytes())?)
-}
-
-fn number(given: &Given, at: usize, wanted: &str) -> Result<u64, Wrong> {
-    let word = given.name(at).unwrap_or_default().to_string_lossy();
-    word.parse().map_err(|_| {
-        let word = shown(&word);
-        Wrong::Call(format!("{wanted}, 0 or more, and not `{word}`"))
-    })
 }

@@ -6,7 +6,6 @@ use crate::{files, standard};
 use tools::core::books;
 use tools::event::{AccountList, Event};
 use tools::history::History;
-use tools::shown::shown;
 use tools::{csv, story, text, words};
 
 const ON: Choice = Choice {
@@ -72,14 +71,10 @@ fn run(given: &Given) -> Result<(), Wrong> {
 }
 
 fn account(given: &Given) -> Result<usize, String> {
-    let Some(number) = given.name(1) else {
-        return Ok(0);
-    };
-    let number = number.to_string_lossy();
-    number.parse().map_err(|_| {
-        let number = shown(&number);
-        format!("N is the number of an account, 0 or more, and not `{number}`")
-    })
+    match given.name(1) {
+        None => Ok(0),
+        Some(_) => given.number(1, "N is the number of an account"),
+    }
 }
 
 fn asked(given: &Given) -> Result<Asked, String> {
