@@ -1,5 +1,7 @@
 // A utility account: one slice of words, in which each part owns a span. One event is posted by `judge`, in lent memory; every
 // other way to post is a door to it.
+#![tactic(auto)]
+
 mod look;
 pub mod many;
 mod rows;

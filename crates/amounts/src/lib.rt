@@ -1,5 +1,7 @@
 // The amounts that an event moves, of a View and the event alone: its charge, its credit; in `fees` the fees by number and
 // the late charge. Every function is total, and its contract is an equation with the rules' definition.
+#![tactic(auto)]
+
 mod fees;
 
 ghost use Rattle.std.specs.Prelude.{◌≡◌, min};

@@ -1,4 +1,6 @@
 // The latest payment arrangement, as an account keeps it, and what was paid and returned since: five words of its memory.
+#![tactic(auto)]
+
 ghost use Rattle.std.specs.Prelude.{◌≡◌, cond, ◌≤◌, length};
 ghost use Rattle.rules.specs.Kinds.{returned_payment};
 ghost use Rattle.rules.specs.History.{is};

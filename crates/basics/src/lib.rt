@@ -1,5 +1,7 @@
 // What straight-line code is made of: a choice between two numbers, the lesser and the greater of two, a difference and a sum that never
 // wrap, a day as a wide number.
+#![tactic(auto)]
+
 ghost use Rattle.std.specs.Prelude.{◌≡◌, cond, ◌+◌, ◌-◌, ◌≤◌, min, max};
 ghost use Rattle.std.proofs.Math.IntN.{sub_ℕ};
 ghost use Rattle.basics.specs.Machine.{largest, largest_signed};

@@ -1,4 +1,6 @@
 // Books in lent bytes: tested in one pass, and one record or account at a time found without a copy.
+#![tactic(auto)]
+
 ghost use Rattle.std.specs.Prelude.{◌≡◌, ◌+◌, ◌*◌, ◌≤◌, length};
 ghost use Rattle.bookformat.specs.Book.{most_accounts, base, record_fine, records_fine, table_fine, header_fine, book_refusal};
 ghost use Rattle.bookformat.specs.Finding.{entries, whole_records, record_at, record_of, span_at, IsAccount};

@@ -1,4 +1,6 @@
 // An account of a book, posted in place: its records are found one after another, and nothing is copied out of the book.
+#![tactic(auto)]
+
 ghost use Rattle.std.specs.Prelude.{◌≡◌, cond, [], ◌≤◌, length};
 ghost use Rattle.std.proofs.lemmas.List.Edits.{sets};
 ghost use Rattle.bookformat.specs.Book.{book_refusal};

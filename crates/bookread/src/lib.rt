@@ -1,5 +1,7 @@
 // The account list of a book read into lent memory: how many records each account has into counts, the records of all
 // accounts, one after another, into a slice for each field. The book is tested first; then one pass reads it.
+#![tactic(auto)]
+
 ghost use Rattle.std.specs.Prelude.{◌≡◌, ◌+◌, ◌*◌, ◌≤◌, length};
 ghost use Rattle.std.proofs.lemmas.List.Edits.{sets};
 ghost use Rattle.bookformat.specs.Book.{base, events_at, counts_at, decode};

@@ -1,5 +1,7 @@
 // Books written from lent memory: how many records each account has in counts, the records of all accounts, one after
 // another, in a slice for each field. All is tested before the first byte is stored; then one pass stores the book.
+#![tactic(auto)]
+
 ghost use Rattle.std.specs.Prelude.{◌≡◌, [], ◌∷◌, ◌++◌, ◌+◌, ◌*◌, ◌<◌, ◌≤◌, length};
 ghost use Rattle.std.proofs.lemmas.List.Edits.{sets};
 ghost use Rattle.little.specs.Little.{le};

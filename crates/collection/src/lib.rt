@@ -1,5 +1,7 @@
 // Collection, in its own words of an account's memory: the service, the newest final notice, and the calls that a
 // disconnection may ask for.
+#![tactic(auto)]
+
 ghost use Rattle.std.specs.Prelude.{◌≡◌, cond, ◌+◌, eqb, length};
 ghost use Rattle.rules.specs.declared.Service.{Service as ServiceT};
 ghost use Rattle.rules.specs.History.{within};

@@ -1,5 +1,7 @@
 // The deposit, in its own words of an account's memory: what is held and required, since when it is full, and the final notices
 // and disconnections of the last year, which bar its return.
+#![tactic(auto)]
+
 ghost use Rattle.std.specs.Prelude.{◌≡◌, length};
 ghost use Rattle.rules.specs.Range.{WellFormed};
 ghost use Rattle.deposit.specs.Deposit.{is_full, deposit_after, concerns, deposit_ok, DepositFit, earned_by, deposit_size, deposit_on};

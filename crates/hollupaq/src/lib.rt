@@ -1,4 +1,6 @@
 // The core for programs in other languages: a static library with plain names. include/hollupaq.h says the same in C.
+#![tactic(auto)]
+
 mod bills;
 mod books;
 mod days;

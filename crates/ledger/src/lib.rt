@@ -2,6 +2,8 @@
 // that are open. Item k, counted from 0 over all charges, stands at place k mod 64 with its day and the sum of the charges up to
 // it (document 01: C_k). These sums rise, so what is paid is always the oldest: `closed` counts it, and no place changes.
 // What is read is defined for any words, so that the test need not look through the places.
+#![tactic(auto)]
+
 ghost use Rattle.std.specs.Prelude.{◌≡◌, cond, ◌+◌, ◌-◌, ◌≤◌, ◌<◌, min, length, get_or};
 ghost use Rattle.std.proofs.Math.IntN.{sub_ℕ};
 ghost use Rattle.rules.specs.Money.{due as due_of};

@@ -1,5 +1,7 @@
 // An account changed in place: lent by `&mut`, where the crate `account` takes it by value. The function loads the account whole
 // and hands it to the covered core, so that no rule stands here.
+#![tactic(auto)]
+
 ghost use Rattle.std.specs.Prelude.{◌≡◌};
 ghost use Rattle.account.specs.Post.{posted};
 ghost use Rattle.lent.specs.Left.{LeavesLent};

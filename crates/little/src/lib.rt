@@ -1,4 +1,6 @@
 // Numbers in bytes, the lowest byte first, of any width up to 8 bytes: read from a slice and stored into one.
+#![tactic(auto)]
+
 ghost use Rattle.std.specs.Prelude.{◌≡◌, ◌+◌, ◌<◌, ◌≤◌, length};
 ghost use Rattle.std.proofs.lemmas.List.Edits.{sets};
 ghost use Rattle.little.specs.Little.{num, le, top};

@@ -1,4 +1,6 @@
 // Medical certificates and the superintendent's approvals, as an account keeps them: two words of its memory.
+#![tactic(auto)]
+
 ghost use Rattle.std.specs.Prelude.{◌≡◌, true, cond, ◌+◌, ◌≤◌, length};
 ghost use Rattle.rules.specs.Limits.{certificate_days};
 ghost use Rattle.rules.specs.Range.{WellFormed};

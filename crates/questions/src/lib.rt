@@ -1,4 +1,6 @@
 // What an account answers, asked in any memory. What is no account owes and holds nothing, has no open items and is closed.
+#![tactic(auto)]
+
 mod days;
 
 ghost use Rattle.std.specs.Prelude.{◌≡◌, get_or};

@@ -1,4 +1,6 @@
 // Rows 1 to 3, which concern every event: its day, and its fields; unknown kinds too. A field that a kind does not name is 0.
+#![tactic(auto)]
+
 ghost use Rattle.std.specs.Prelude.{◌≡◌, cond, not, get_or};
 ghost use Rattle.rules.specs.Range.{unknown, fields, in_range};
 ghost use Rattle.rules.specs.Accepted.{day_rows};

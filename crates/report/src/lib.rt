@@ -1,4 +1,6 @@
 // The standing of every account of a book, as text in lent memory. The accounts are posted in place, record by record.
+#![tactic(auto)]
+
 mod line;
 
 ghost use Rattle.std.specs.Prelude.{◌≡◌, ◌+◌, ◌*◌, ◌≤◌, ◌<◌, ltb, length};

@@ -1,5 +1,7 @@
 // The words of the rules: an event, the service, an answer, a charge, what the table of refusals looks at, and the bill of a reading.
 // The rules themselves are in specs/, over lists of events alone; the table as code is the crate `table`.
+#![tactic(auto)]
+
 pub mod kinds;
 pub mod limits;
 

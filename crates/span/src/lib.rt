@@ -1,5 +1,7 @@
 // Memory in spans of words: what a store in one span does to the others is a law on lists (proofs/Law.antt). Here is a span of
 // one word.
+#![tactic(auto)]
+
 ghost use Rattle.std.specs.Prelude.{◌≡◌, [], ◌∷◌, length, get_or};
 
 pub fn word(s: &[u64]) -> u64

@@ -1,5 +1,7 @@
 // Prints the standing of the accounts of a book, which comes from standard input: a line for each account, or one line
 // that says by which number the book is refused.
+#![tactic(auto)]
+
 ghost use Rattle.std.specs.Prelude.{◌≡◌};
 ghost use Rattle.report.specs.Report.{input_text};
 ghost use Rattle.standing.specs.Program.{Prints};

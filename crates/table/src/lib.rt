@@ -1,5 +1,7 @@
 // The table of refusals as code: rows 4 to 19, of a View and an event. Only the rows that concern the event's kind are asked.
 // Every function takes any View and any Event, and its contract is an equation with the rules' definition.
+#![tactic(auto)]
+
 mod arms;
 
 ghost use Rattle.std.specs.Prelude.{◌≡◌, min};

@@ -1,6 +1,8 @@
 // Bills from the reading: the amount for a bill, worked out from a class and its kilowatt-hours, and the lines that it is made of. The
 // schedules are rows of blocks, a row for each class; source document 002 has the prices. The account knows nothing of them: what
 // is worked out here is posted as any bill is.
+#![tactic(auto)]
+
 ghost use Rattle.std.specs.Prelude.{◌≡◌, ◌≤◌, ◌<◌, get_or};
 ghost use Rattle.basics.specs.Machine.{largest};
 ghost use Rattle.rules.specs.Tariff.{lines_from, energy_by, cents_of, bill_refusal, bill_of, bill_lines, no_line};

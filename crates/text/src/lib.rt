@@ -1,5 +1,7 @@
 // Text in lent bytes: bytes copied, and numbers in decimal digits. A number or a word is stored together with the byte that
 // follows it, a space or the end of the line.
+#![tactic(auto)]
+
 ghost use Rattle.std.specs.Prelude.{◌≡◌, [], ◌∷◌, ◌++◌, ◌+◌, ◌≤◌, length};
 ghost use Rattle.std.proofs.Math.IntN.{sub_ℕ};
 ghost use Rattle.std.proofs.lemmas.List.Edits.{sets};
