@@ -14,6 +14,7 @@ import subprocess
 import sys
 import tempfile
 
+TURNED = {"fields_fit": "in_range", "answer_found": "answer_to", "words_found": "words_after", "no_arrangement_made": "no_arrangement", "no_notice_sent": "no_notice", "service_found": "service_by"}
 IDENT = r"[A-Za-zα-ωΑ-Ω_][\w'₀-₉κμ-]*"
 
 
@@ -122,9 +123,13 @@ class Turn:
         self.said = []
         self.steps = {}
         self.places = {}
+        self.arms = {}
         for (name, parent, (old, new), callee, rest), newname in zip(info["places"], info["places_by_name"]):
             if old:
                 self.steps.setdefault(norm2(old), new)
+                key = re.search(r"(keys\d+|rest)$", name)
+                if key:
+                    self.arms[norm2(old), key.group(1)] = new
             self.places[norm2(name)] = newname
         self.loops = {old: (new, vars_, flags) for ((old, new), vars_), flags in zip(info["loops"], info["changed"])}
         for old, (new, _, _) in self.loops.items():
@@ -134,12 +139,26 @@ class Turn:
     def say(self, text):
         self.said.append(f"{self.folder}: {text}")
 
+    def step_of(self, name):
+        """A step that is named after a function of which a lemma has the name, which the respelling took for the lemma."""
+        if name in self.steps:
+            return name
+        for word in (re.sub(r"_lem$", "", name), TURNED.get(name, name)):
+            if word in self.steps:
+                return word
+        return name
+
     def path(self, root, parts):
         parts = [p for p in parts if p != "before"]
         if parts:
-            new = self.steps.get(norm2(parts[0]))
-            if new:
+            first = self.step_of(norm2(parts[0]))
+            new = self.steps.get(first)
+            if len(parts) > 1 and (first, parts[1]) in self.arms:
+                parts = [self.arms[first, parts[1]], "is"] + parts[2:]
+            elif new:
                 parts = [new] + parts[1:]
+                if new.startswith("in-") and parts[1:3] == ["given", "1"]:
+                    parts[1:3] = ["is"]
             elif parts[0] not in ("args", "requires", "ranges", "type_inv", "fn"):
                 self.say(f"no step {parts[0]}")
         s = root + "".join("." + p for p in parts)
@@ -268,7 +287,7 @@ def turn(crate, key, info):
         for a in args:
             if not plain.match(a) and not re.fullmatch(IDENT, a):
                 t.say(f"an answer without a name: {a}")
-    invs, answers = [], []
+    invs, answers, places = [], [], set()
     for d in rest:
         if d.name in is_inv:
             it = t.invariant(d)
@@ -285,13 +304,23 @@ def turn(crate, key, info):
             if len(params) > 1:
                 t.say(f"{d.name}: parameters {params}")
             body = t.body(("\n" if "\n" in gap else "") + (gap.replace("\n", "") if "\n" in gap else "") + body, tuple(params))
+            if "in_default.is" in body:
+                t.say(f"{new} is left to the check: it cites a `_` arm")
+                continue
             answers.append((new, f"{com}pub {new} : goal.{new}\n{unf}{new} {' '.join(params)} ={'' if body.startswith(chr(10)) else ' '}{body}"))
         else:
             body = d.text
-            body = re.sub(r"tie\.([\w'-]+)((?: invariant-\S+)(?: decreases-\S+))?", lambda m: "goal." + t.places.get(norm2(m.group(1)), m.group(1)), body)
-            if "goal." in body:
+            here = []
+
+            def place(m):
+                here.append(t.places.get(norm2(m.group(1)), m.group(1)))
+                return here[-1]
+
+            body = re.sub(r"tie\.([\w'-]+)((?: invariant-[^\s)]+)+(?: decreases-[^\s)]+)+)?", place, body)
+            if here:
                 t.say(f"a helper over a place: {d.name}")
                 body = t.body(body)
+                places |= set(here)
             answers.append((None, com + body))
     for new, a in extra:
         m = re.match(r"\(λ (\w+)( κs)?\. (.*)\)$", a)
@@ -301,10 +330,10 @@ def turn(crate, key, info):
             answers.append((new, f"pub {new} : goal.{new}\n{new} = {a}"))
     # answers that cite one another go by their new names
     def recite(text):
-        for old, new in sorted(new_of.items(), key=lambda p: -len(p[0])):
-            if old != new:
-                text = re.sub(r"(?<![\w'.«-])" + re.escape(old) + r"(?![\w'-])", new, text)
-        return text
+        names = sorted(new_of, key=len, reverse=True)
+        if not names:
+            return text
+        return re.sub(r"(?<![\w'.«-])(" + "|".join(map(re.escape, names)) + r")(?![\w'-])", lambda m: new_of[m.group(1)], text)
 
     os.makedirs(folder, exist_ok=True)
     used = lambda body: [u for u in uses]
@@ -314,14 +343,17 @@ def turn(crate, key, info):
     if answers:
         body = "\n\n".join(recite(a) if new is None else cite(a, new, recite) for new, a in answers)
         with open(os.path.join(folder, "Answers.antt"), "w", encoding="utf-8") as f:
-            f.write(only(uses, body) + f"use {library}.Goals as goal\n\n" + body + "\n")
+            shown = f"use {library}.Goals.{{{', '.join(sorted(places))}}}\n" if places else ""
+            f.write(only(uses, body) + f"use {library}.Goals as goal\n{shown}\n" + body + "\n")
     os.remove(proof)
     return t.said
 
 
 def cite(text, new, recite):
-    head, _, rest = text.partition(f"pub {new} : goal.{new}\n")
-    return head + f"pub {new} : goal.{new}\n" + recite(rest)
+    """The answer, with the others that it cites by their new names; its own head stays."""
+    head, mark, rest = text.partition(f"pub {new} : goal.{new}\n")
+    unfolding, own, rest = rest.partition(f"{new} ")
+    return head + mark + unfolding + own + recite(rest)
 
 
 def only(uses, body):

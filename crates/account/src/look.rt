@@ -17,7 +17,7 @@ use rules::limits::FINAL_DAY;
 use rules::{Event, Service, View};
 
 // What only the kinds that look at the debt look at, on an event's day.
-#[derive(Drop)]
+#[derive(Clone, Copy)]
 pub struct Debts {
     pub arrears: u64,
     pub in_force: bool,
@@ -39,7 +39,7 @@ const NO_DEBTS: Debts = Debts {
 };
 
 // The sums and the deposit; `payment` is that of the receipt which a returned payment names, `earned` is for a deposit moved.
-#[derive(Drop)]
+#[derive(Clone, Copy)]
 pub struct Money {
     pub sums: Sums,
     pub payment: u64,

@@ -7,7 +7,7 @@ use crate::spans::{COLLECTION, LAST};
 use rules::{Event, View};
 
 // The number of the first row that refuses the event, 0 where none does; what the rows looked at, and what the event charges.
-#[derive(Drop)]
+#[derive(Clone, Copy)]
 pub struct Rows {
     pub number: u8,
     pub view: View,

@@ -28,7 +28,7 @@ const PAID: usize = 3;
 const RETURNED: usize = 4;
 
 // Where there is none, all is 0: an arrangement in no parts is in force on no day.
-#[derive(Drop)]
+#[derive(Clone, Copy)]
 pub struct Arrangement {
     pub day: u64,
     pub parts: u64,

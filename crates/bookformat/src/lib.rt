@@ -17,14 +17,14 @@ pub const MOST_ACCOUNTS: u64 = 1024;
 pub const LONGEST: u64 = 4_294_967_295;
 
 // How reading or writing a book ends: done, or stopped with the number of the refusal, 20, 21 or 22.
-#[derive(Drop)]
+#[derive(Clone, Copy)]
 pub enum Outcome {
     Done,
     Stopped(u8),
 }
 
 // The records of one account of a book: count of them, from record first on.
-#[derive(Drop)]
+#[derive(Clone, Copy)]
 pub struct Span {
     pub first: usize,
     pub count: usize,

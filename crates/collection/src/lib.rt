@@ -35,7 +35,7 @@ pub const CLOSED: u64 = 2;
 const CALLED_FOR: u64 = CALL_DAYS - 1;
 
 // The newest final notice, and 1 while it lives on: no disconnection used it up and no event made it lapse.
-#[derive(Drop)]
+#[derive(Clone, Copy)]
 pub struct Notice {
     pub day: u64,
     pub live: u64,
@@ -43,13 +43,13 @@ pub struct Notice {
 
 // The day after the last call, and the day after the last call on an earlier day; 0 for none. A disconnection on a day can
 // ask for no other: a call on the day itself does not count, and an older one is further back.
-#[derive(Drop)]
+#[derive(Clone, Copy)]
 pub struct Calls {
     pub last: u64,
     pub earlier: u64,
 }
 
-#[derive(Drop)]
+#[derive(Clone, Copy)]
 pub struct Collection {
     pub service: u64,
     pub notice: Notice,

@@ -35,7 +35,7 @@ const BARS_FOR: u64 = YEAR - 2;
 
 // The days after the three newest final notices, newest first, and the day after the newest disconnection; 0 for none.
 // A third notice within the year is one too many, so older ones are never asked for.
-#[derive(Drop)]
+#[derive(Clone, Copy)]
 pub struct Conduct {
     pub first: u64,
     pub second: u64,
@@ -43,7 +43,7 @@ pub struct Conduct {
     pub cut: u64,
 }
 
-#[derive(Drop)]
+#[derive(Clone, Copy)]
 pub struct Deposit {
     pub held: u64,
     pub required: u64,

@@ -37,7 +37,7 @@ const BELOW: usize = 5;
 const RING: usize = 6;
 
 // What the table asks of every event.
-#[derive(Drop)]
+#[derive(Clone, Copy)]
 pub struct Sums {
     pub charged: u64,
     pub credited: u64,
@@ -47,7 +47,7 @@ pub struct Sums {
 }
 
 // An open item as it is shown: its day and its unpaid part.
-#[derive(Drop)]
+#[derive(Clone, Copy)]
 pub struct OpenItem {
     pub day: u64,
     pub unpaid: u64,
@@ -87,7 +87,7 @@ fn credits(w: &[u64]) -> u64
 
 // ---- settling
 // The first item that credits leave open, and the sum of those before it.
-#[derive(Drop)]
+#[derive(Clone, Copy)]
 struct Mark {
     closed: u64,
     below: u64,

@@ -23,7 +23,7 @@ const LAST_APPROVED: u64 = FINAL_DAY + APPROVAL_DAYS;
 
 // The day past the end of the certificate that ends last, and of the approval that ends last among those posted after the
 // newest certificate; 0 for none. No later day can ask for more.
-#[derive(Drop)]
+#[derive(Clone, Copy)]
 pub struct Medical {
     pub certified_to: u64,
     pub approved_to: u64,

@@ -14,14 +14,14 @@ use ledger::OpenItem;
 use rules::Service;
 
 // What a question for a day gives: a sum in cents, or the number that refuses the day.
-#[derive(Drop)]
+#[derive(Clone, Copy)]
 pub enum Amount {
     Cents(u64),
     Refused(u8),
 }
 
 // What a yes-or-no question for a day gives.
-#[derive(Drop)]
+#[derive(Clone, Copy)]
 pub enum Truth {
     Yes,
     No,

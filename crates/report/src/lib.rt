@@ -33,7 +33,7 @@ const LINE: usize = 113;
 pub const ROOM: usize = FIRST_LINE + LINE * (MOST_ACCOUNTS as usize);
 
 // Where an account stands after its records. What is owed is charged less credits, which may be negative.
-#[derive(Drop)]
+#[derive(Clone, Copy)]
 pub struct Standing {
     // all charges (document 01: C)
     pub charged: u64,
@@ -46,7 +46,7 @@ pub struct Standing {
 }
 
 // How many bytes were written; or refused with 22, the output being shorter than the text.
-#[derive(Drop)]
+#[derive(Clone, Copy)]
 pub enum Printed {
     Bytes(usize),
     Refused(u8),

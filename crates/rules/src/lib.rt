@@ -11,7 +11,7 @@ ghost use Rattle.rules.specs.Service.{is_on, is_off, is_closed};
 ghost use Rattle.rules.specs.Answer.{number_of};
 
 // One thing that happened to an account. specs/Kinds.antt names the sixteen kinds, specs/Range.antt the fields of each.
-#[derive(Drop)]
+#[derive(Clone, Copy)]
 pub struct Event {
     pub kind: u8,
     pub option: u8,
@@ -20,7 +20,7 @@ pub struct Event {
 }
 
 // The ranges of an event's option and amount, both ends included.
-#[derive(Drop)]
+#[derive(Clone, Copy)]
 pub struct Fields {
     pub option_from: u8,
     pub option_to: u8,
@@ -28,7 +28,7 @@ pub struct Fields {
     pub amount_to: u64,
 }
 
-#[derive(Drop)]
+#[derive(Clone, Copy)]
 pub enum Service {
     On,
     Off,
@@ -36,14 +36,14 @@ pub enum Service {
 }
 
 // Accepted, with the receipt of a payment or 0; or refused with a number of the table.
-#[derive(Drop)]
+#[derive(Clone, Copy)]
 pub enum Answer {
     Accepted(u64),
     Refused(u8),
 }
 
 // A charge: its day, its amount, and the sum of all charges up to it (document 01: an item, a_k, C_k).
-#[derive(Drop)]
+#[derive(Clone, Copy)]
 pub struct Item {
     pub day: u32,
     pub amount: u64,
@@ -51,7 +51,7 @@ pub struct Item {
 }
 
 // What the table looks at when one event is offered. An account makes one of its fields, the rules one of the history.
-#[derive(Drop)]
+#[derive(Clone, Copy)]
 pub struct View {
     pub service: Service,
     // all charges (document 01: C)
@@ -79,18 +79,18 @@ pub struct View {
 
 // A block of a schedule, its limit and its price: the usage from the limit of the block before it up to its own costs so many
 // hundredths of a cent for each kilowatt-hour.
-#[derive(Drop)]
+#[derive(Clone, Copy)]
 pub struct Block(pub u64, pub u64);
 
 // A line of a bill: so many kilowatt-hours, at the price of their block.
-#[derive(Drop)]
+#[derive(Clone, Copy)]
 pub struct Line {
     pub used: u64,
     pub price: u64,
 }
 
 // The bill of a reading: its cents, or refused with a number of the table.
-#[derive(Drop)]
+#[derive(Clone, Copy)]
 pub enum Billed {
     Cents(u64),
     Refused(u8),

@@ -1,0 +1,4 @@
+use Rattle.deposit.proofs.Conduct.after.Goals as goal
+
+pub returns : goal.returns
+returns c = cc

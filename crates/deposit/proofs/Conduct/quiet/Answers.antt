@@ -1,0 +1,4 @@
+use Rattle.deposit.proofs.Conduct.quiet.Goals as goal
+
+pub returns : goal.returns
+returns c = cc
