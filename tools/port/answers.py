@@ -57,6 +57,7 @@ def blocks(text):
     """Head lines (use, comments before), then declarations: each begins at the margin with NAME : TYPE."""
     out, cur, comments = [], None, []
     uses = []
+    text = re.sub(r"(?m)^use [^{\n]*\{[^}]*\}", lambda m: re.sub(r",? *\}$", "}", re.sub(r"\s+", " ", m.group(0)).replace("{ ", "{")), text)
     for line in text.rstrip("\n").split("\n"):
         if line.startswith("use ") or line.startswith("pub use "):
             uses.append(line)
@@ -120,6 +121,7 @@ def spec_args(text):
 class Turn:
     def __init__(self, folder, info):
         self.folder, self.info = folder, info
+        self.own = own_requires(folder)
         self.said = []
         self.steps = {}
         self.places = {}
@@ -204,7 +206,16 @@ class Turn:
                 env.pop(lm.group(1), None)
             out.append(new)
         text = "\n".join(out)
+        text = self.clauses(text)
         text = re.sub(r"record \{ fits = (.*) \}$", r"\1", text, flags=re.S)
+        return text
+
+    def clauses(self, text):
+        """The function's own requires, where it has several: by name, and not by place."""
+        names = self.own
+        for k in reversed(range(len(names))):
+            at = r"\.1" * k + (r"\.0" if k + 1 < len(names) else "")
+            text = re.sub(r"(?<=\bc\.requires)" + at + r"(?!\w)", "." + names[k], text)
         return text
 
     def invariant(self, d):
@@ -228,6 +239,20 @@ class Turn:
         com = "".join(c + "\n" for c in d.comments)
         unf = d.unfolding + "\n" if d.unfolding else ""
         return f"{com}abbrev pub {name} : goal.{name}\n{unf}{name} l = {body}"
+
+
+def own_requires(folder):
+    crate, _, path = folder.partition("/proofs/")
+    name = path.split("/")[-1]
+    found = []
+    for top, _, files in os.walk(os.path.join(crate, "src")):
+        for f in files:
+            with open(os.path.join(top, f), encoding="utf-8") as it:
+                for m in re.finditer(r"\bfn " + re.escape(name) + r"\b[^{;]*?((?:\s*(?:requires|ensures)\b[^\n]*(?:\n(?!\{\n|\s*\}\n)[^\n]*)*)+)", it.read()):
+                    names = re.findall(r"(?m)^\s*requires (\w+) \{", m.group(1))
+                    if names:
+                        found.append(names)
+    return found[0] if found else []
 
 
 def norm2(name):

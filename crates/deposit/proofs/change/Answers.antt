@@ -4,7 +4,7 @@ use Rattle.deposit.proofs.change.Goals as goal
 
 pub after-d-requires : goal.after-d-requires
 after-d-requires c =
-    (rw c.load-before.ensures c.requires.1.0, c.requires.1.1)
+    record { deposit_fit = rw c.load-before.ensures c.requires.deposit_fit; well_formed = c.requires.well_formed }
 
 pub returns : goal.returns
 returns c =

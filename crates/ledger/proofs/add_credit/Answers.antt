@@ -5,7 +5,7 @@ use Rattle.ledger.proofs.Words.{credits}
 use Rattle.ledger.proofs.add_credit.Goals as goal
 
 pub shape_of-w : goal.shape_of-w
-shape_of-w c = c.settle.auto.0 ∙ simp length-set
+shape_of-w c = c.settle.auto.w ∙ simp length-set
 
 pub returns : goal.returns
 returns c =

@@ -10,28 +10,28 @@ returns-then-adds c =
     let l = ledger_on a.w.now in
     c.charge_item.ensures
     ∙ (ap (λ d. settled (entered_in l d a.charge)) c.wide.ensures
-    ∙ sym (on_charge l a.e a.adds a.charge a.credit c.requires.1.1.one c.if-adds.true))
+    ∙ sym (on_charge l a.e a.adds a.charge a.credit c.requires.ledger_room.one c.if-adds.true))
 
 pub pay_out-requires : goal.pay_out-requires
 pay_out-requires c =
     let a = c.args in
-    (c.requires.0, payout_within (ledger_on a.w.now) a.e a.adds a.charge a.credit c.requires.1.1 c.if-e-eq-PAYOUT.true)
+    (c.requires.w_len, payout_within (ledger_on a.w.now) a.e a.adds a.charge a.credit c.requires.ledger_room c.if-e-eq-PAYOUT.true)
 
 pub returns-then-e-eq-PAYOUT : goal.returns-then-e-eq-PAYOUT
 returns-then-e-eq-PAYOUT c =
     let a = c.args in
     c.pay_out.ensures
-    ∙ sym (on_payout (ledger_on a.w.now) a.e a.adds a.charge a.credit c.requires.1.1.one c.if-adds.false c.requires.1.0
+    ∙ sym (on_payout (ledger_on a.w.now) a.e a.adds a.charge a.credit c.requires.ledger_room.one c.if-adds.false c.requires.ledger_fit
     c.if-e-eq-PAYOUT.true)
 
 pub returns-then-credit-gt0 : goal.returns-then-credit-gt0
 returns-then-credit-gt0 c =
     let a = c.args in
     c.add_credit.ensures
-    ∙ sym (on_credit (ledger_on a.w.now) a.e a.adds a.charge a.credit c.requires.1.1.one c.if-adds.false c.if-e-eq-PAYOUT.false)
+    ∙ sym (on_credit (ledger_on a.w.now) a.e a.adds a.charge a.credit c.requires.ledger_room.one c.if-adds.false c.if-e-eq-PAYOUT.false)
 
 pub returns-else-credit-gt0 : goal.returns-else-credit-gt0
 returns-else-credit-gt0 c =
     let a = c.args in
-    sym (on_other (ledger_on a.w.now) a.e a.adds a.charge a.credit c.requires.1.1.one c.if-adds.false c.requires.1.0
+    sym (on_other (ledger_on a.w.now) a.e a.adds a.charge a.credit c.requires.ledger_room.one c.if-adds.false c.requires.ledger_fit
     c.if-e-eq-PAYOUT.false (omega (arith, c.if-credit-gt0.false)))

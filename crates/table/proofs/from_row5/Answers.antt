@@ -1,22 +1,7 @@
+use borrow.Author.Rules.{rules}
 use mathlib.Core.Path.{◌∙◌}
-use Rattle.table.proofs.ByKind.{
+use Rattle.table.proofs.ByKind.{of_bill, of_payment, of_returned, of_asked, of_paid, of_moved, of_payout, of_arrangement, of_notice, of_call, of_disconnection, of_reconnection, of_closing, of_none}
 use Rattle.table.proofs.from_row5.Goals as goal
-
-  of_bill,
-  of_payment,
-  of_returned,
-  of_asked,
-  of_paid,
-  of_moved,
-  of_payout,
-  of_arrangement,
-  of_notice,
-  of_call,
-  of_disconnection,
-  of_reconnection,
-  of_closing,
-  of_none,
-}
 
 pub returns-in-1 : goal.returns-in-1
 returns-in-1 c =
@@ -69,3 +54,8 @@ returns-in-15 c =
 pub returns-in-16 : goal.returns-in-16
 returns-in-16 c =
     c.credit_rows-in-16.ensures ∙ of_closing c.args.v c.args.e c.in-16.is
+
+pub returns-in_default : goal.returns-in_default
+returns-in_default c =
+    of_none c.args.v c.args.e (search rules) (search rules) (search rules) (search rules) (search rules) (search rules) (search rules)
+    (search rules) (search rules) (search rules) (search rules) (search rules) (search rules)

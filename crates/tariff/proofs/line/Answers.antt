@@ -8,6 +8,6 @@ use Rattle.tariff.proofs.line.Goals as goal
 pub returns : goal.returns
 returns c =
     let a = c.args in
-    let e : length a.t1 ≡ 3 = search (rules, length_of) in
+    let e : length a.row ≡ 3 = search (rules, length_of) in
     rw (c.minus_or_zero.ensures, c.lesser-upto.ensures, c.start.ensures)
-    (sym (line_at a.t1 a.usage a.i (omega arith)))
+    (sym (line_at a.row a.usage a.i (omega arith)))

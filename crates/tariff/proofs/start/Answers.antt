@@ -8,5 +8,5 @@ use Rattle.tariff.proofs.start.Goals as goal
 pub returns : goal.returns
 returns c =
     let a = c.args in
-    let e : length a.t1 ≡ 3 = search (rules, length_of) in
-    sym (start_at a.t1 a.i (search rules) (omega arith))
+    let e : length a.row ≡ 3 = search (rules, length_of) in
+    sym (start_at a.row a.i (search rules) (omega arith))

@@ -5,7 +5,7 @@ use Rattle.deposit.proofs.Deposit.after.Goals as goal
 
 pub overflow_add-held : goal.overflow_add-held
 overflow_add-held c =
-    omega (arith, c.select64.ensures, amount_if_lem deposit_paid c.args.e c.requires.1.fields_fit)
+    omega (arith, c.select64.ensures, amount_if_lem deposit_paid c.args.e c.requires.well_formed.fields_fit)
 
 pub returns : goal.returns
 returns c = cc
