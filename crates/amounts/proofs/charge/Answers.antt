@@ -22,6 +22,3 @@ returns-in-4 c =
     let fits : fee_of (fee_number c.args.e) ≤ largest = omega (arith, same) in
     same ∙ charge_fee c.args.v c.args.e c.in-4.is fits
 
-pub returns-in_default : goal.returns-in_default
-returns-in_default c =
-    let k = c.in_default.in_default-own in ?

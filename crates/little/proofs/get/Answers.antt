@@ -6,14 +6,6 @@ use lib.ListN.{get_or}
 use Rattle.little.specs.Little.{num}
 use Rattle.little.proofs.Numbers.{num_step, num_zero, num_lt, top_mono}
 use Rattle.little.proofs.get.Goals as goal
-use Rattle.little.proofs.get.Goals.{In-loop-left}
-
--- one byte more fits
-bound : (c : In-loop-left) → 256 * c.loop-left.acc + 255 < 2 ^ 64
-bound c =
-    let a = c.args in
-    let l = c.loop-left.left in
-    omega (arith, num_lt (a.w - l) (a.p + l) a.b.now (omega arith) (λ i. (c.type_inv.b i).fits), top_mono (a.w - l) 7 (omega arith))
 
 pub loop-left-init : goal.loop-left-init
 loop-left-init c =
@@ -21,11 +13,18 @@ loop-left-init c =
     let z : a.w - a.w ≡ 0 = omega arith in
     (search rules, rw z (sym (num_zero (a.p + a.w) a.b.now)))
 
+-- one byte more fits
 pub overflow_mul-acc : goal.overflow_mul-acc
-overflow_mul-acc c = omega (arith, bound c)
+overflow_mul-acc c =
+    let a = c.args in
+    let l = c.loop-left.left in
+    omega (arith, num_lt (a.w - l) (a.p + l) a.b.now (omega arith) (λ i. (c.type_inv.b i).fits), top_mono (a.w - l) 7 (omega arith))
 
 pub overflow_add-acc : goal.overflow_add-acc
-overflow_add-acc c = omega (arith, bound c)
+overflow_add-acc c =
+    let a = c.args in
+    let l = c.loop-left.left in
+    omega (arith, num_lt (a.w - l) (a.p + l) a.b.now (omega arith) (λ i. (c.type_inv.b i).fits), top_mono (a.w - l) 7 (omega arith))
 
 pub loop-left-preserved : goal.loop-left-preserved
 loop-left-preserved c =
