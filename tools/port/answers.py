@@ -126,9 +126,12 @@ class Turn:
         self.steps = {}
         self.places = {}
         self.arms = {}
+        self.callees = {}
         for (name, parent, (old, new), callee, rest), newname in zip(info["places"], info["places_by_name"]):
             if old:
                 self.steps.setdefault(norm2(old), new)
+                if callee:
+                    self.callees[new] = callee
                 key = re.search(r"(keys\d+|rest)$", name)
                 if key:
                     self.arms[norm2(old), key.group(1)] = new
@@ -145,7 +148,7 @@ class Turn:
         """A step that is named after a function of which a lemma has the name, which the respelling took for the lemma."""
         if name in self.steps:
             return name
-        for word in (re.sub(r"_lem$", "", name), TURNED.get(name, name)):
+        for word in (re.sub(r"_lem$", "", name), TURNED.get(name, name), name.lower()):
             if word in self.steps:
                 return word
         return name
@@ -163,6 +166,10 @@ class Turn:
                     parts[1:3] = ["is"]
             elif parts[0] not in ("args", "requires", "ranges", "type_inv", "fn"):
                 self.say(f"no step {parts[0]}")
+        if len(parts) > 2 and parts[1] == "new" and parts[2].isdigit() and parts[0] in self.callees:
+            parts[2] = self.info["params"][self.callees[parts[0]]][int(parts[2])]
+        if len(parts) > 2 and parts[1] == "auto" and parts[2].isdigit() and parts[0] in self.callees:
+            parts[2] = self.info["params"][self.callees[parts[0]]][int(parts[2])]
         s = root + "".join("." + p for p in parts)
         # an element of a slice of numbers fits
         s = re.sub(r"^(\w+)\.(shared_slice_known[\w-]*)\.given$", lambda m: self.typed(m), s)

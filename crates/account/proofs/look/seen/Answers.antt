@@ -1,0 +1,14 @@
+use Rattle.account.specs.State.{state_on}
+use Rattle.account.proofs.Exits.{seen_is}
+use Rattle.account.proofs.look.seen.Goals as goal
+
+pub returns : goal.returns
+returns c =
+    rw (
+      c.view_of.ensures,
+      c.service.ensures,
+      c.money_for-n.ensures,
+      c.debts_for-d.ensures,
+      c.load-c.ensures,
+    )
+    (seen_is (state_on c.args.m.now) c.args.e)

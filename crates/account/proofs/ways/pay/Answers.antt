@@ -1,0 +1,12 @@
+use native.Mathlib.Omega.{arith}
+use Rattle.account.specs.State.{state_on, view}
+use Rattle.account.proofs.OwnWays.{way_is, payment_receipt}
+use Rattle.account.proofs.ways.pay.Goals as goal
+
+pub returns : goal.returns
+returns c =
+    let a = c.args in
+    let v = view (state_on a.m.now) a.e in
+    let b = way_is a.m.now c.take_payment.new.m c.pass_day.new.m a.e v (omega (arith, c.requires.1)) c.take_payment.ensures
+    c.pass_day.ensures in
+    record { became = b; receipt_is = payment_receipt a.m.now c.pass_day.new.m a.e v c.count.result c.requires.1 b c.count.ensures }
