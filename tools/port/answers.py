@@ -213,6 +213,10 @@ class Turn:
                 env.pop(lm.group(1), None)
             out.append(new)
         text = "\n".join(out)
+        for name, step in re.findall(r"let (" + IDENT + r") = c\.([\w-]+) in", text):
+            if step in self.callees:
+                ps = self.info["params"][self.callees[step]]
+                text = re.sub(r"(?<![\w'.])" + re.escape(name) + r"\.(new|auto)\.(\d+)(?!\w)", lambda m: f"{name}.{m.group(1)}.{ps[int(m.group(2))]}", text)
         text = self.clauses(text)
         text = re.sub(r"record \{ fits = (.*) \}$", r"\1", text, flags=re.S)
         return text

@@ -1,0 +1,20 @@
+use mathlib.Core.Path.{◌≡◌, ap, ◌∙◌}
+use Prim.Native.Nat.{◌+◌, ◌*◌}
+use native.Mathlib.Omega.{arith}
+use borrow.Author.Tests.{le-ltb, lt-ltb}
+use Rattle.bookformat.specs.Book.{base, accounts, event_at}
+use Rattle.bookformat.specs.Finding.{whole_records}
+use Rattle.bookformat.proofs.Found.{record_told}
+use Rattle.book.proofs.record.Goals as goal
+
+pub returns-then-room-k : goal.returns-then-room-k
+returns-then-room-k c =
+    let s = c.args in
+    record_told s.b.now s.k _ (rw (le-ltb s.k (whole_records s.b.now) (omega arith)))
+
+pub returns : goal.returns
+returns c =
+    let s = c.args in
+    let p : 8 + 8 * c.get-a.result + 16 * s.k ≡ base (accounts s.b.now) + 16 * s.k = omega arith in
+    record_told s.b.now s.k _
+    (rw (lt-ltb s.k (whole_records s.b.now) (omega arith)) (c.event_at.ensures ∙ ap (λ q. event_at q s.b.now) p))

@@ -1,0 +1,4 @@
+use Rattle.bookformat.proofs.event_at.Goals as goal
+
+pub returns : goal.returns
+returns c = cc

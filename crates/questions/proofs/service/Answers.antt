@@ -1,0 +1,14 @@
+use native.Mathlib.Omega.{arith}
+use Rattle.questions.proofs.Asked.{size_of, asked_yes, asked_no}
+use Rattle.questions.proofs.service.Goals as goal
+
+pub slice_bounds-load-end : goal.slice_bounds-load-end
+slice_bounds-load-end c = omega (arith, size_of _ c.passes.ensures c.if-passes.true)
+
+pub returns-then-passes : goal.returns-then-passes
+returns-then-passes c =
+    asked_yes _ _ _ c.passes.ensures c.if-passes.true
+    (rw (c.service.ensures, c.load-c.ensures))
+
+pub returns : goal.returns
+returns c = asked_no _ _ _ c.passes.ensures c.if-passes.false
