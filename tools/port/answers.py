@@ -218,6 +218,8 @@ class Turn:
                 ps = self.info["params"][self.callees[step]]
                 text = re.sub(r"(?<![\w'.])" + re.escape(name) + r"\.(new|auto)\.(\d+)(?!\w)", lambda m: f"{name}.{m.group(1)}.{ps[int(m.group(2))]}", text)
         text = self.clauses(text)
+        # the test of `!x` speaks of x itself
+        text = re.sub(r"not-(true|false) _ ", "", text)
         text = re.sub(r"record \{ fits = (.*) \}$", r"\1", text, flags=re.S)
         return text
 
@@ -323,7 +325,7 @@ def turn(crate, key, info):
         for a in args:
             if not plain.match(a) and not re.fullmatch(IDENT, a):
                 t.say(f"an answer without a name: {a}")
-    invs, answers, places = [], [], set()
+    invs, answers, places, helpers = [], [], set(), []
     for d in rest:
         if d.name in is_inv:
             it = t.invariant(d)
@@ -357,6 +359,7 @@ def turn(crate, key, info):
                 t.say(f"a helper over a place: {d.name}")
                 body = t.body(body)
                 places |= set(here)
+                helpers.append((d.name, com + body))
             answers.append((None, com + body))
     for new, a in extra:
         m = re.match(r"\(λ (\w+)( κs)?\. (.*)\)$", a)
@@ -364,6 +367,15 @@ def turn(crate, key, info):
             answers.append((new, f"pub {new} : goal.{new}\n{new} {m.group(1)} = {t.body(m.group(3), (m.group(1),))}"))
         else:
             answers.append((new, f"pub {new} : goal.{new}\n{new} = {a}"))
+    # a helper over one place fits no other: what it says is put where it is cited
+    for d in helpers:
+        m = re.match(re.escape(d[0]) + r" (\w+) = (.*)$", d[1].split("\n", d[1].count("\n"))[-1])
+        if not m:
+            t.say(f"a helper over a place of several lines: {d[0]}")
+            continue
+        answers = [(n, a) for n, a in answers if a != d[1]]
+        answers = [(n, re.sub(r"(?<![\w'.-])" + re.escape(d[0]) + r" c(?![\w'.-])", "(" + m.group(2) + ")", a)) for n, a in answers]
+        places = set()
     # answers that cite one another go by their new names
     def recite(text):
         names = sorted(new_of, key=len, reverse=True)

@@ -115,7 +115,7 @@ fn room(b: &[u8]) -> u64
 // Record k, counted over all accounts; a record of kind 0 past the end. Of a book that is refused, what lies there.
 pub fn record(b: &[u8], k: usize) -> Event
     ensures value { result ≡ record_at b.now k }
-    ensures value_2 { book_refusal b.now ≡ 0 → result ≡ record_of b.now k }
+    ensures in_book { book_refusal b.now ≡ 0 → result ≡ record_of b.now k }
 {
     if room(b) <= k as u64 {
         return Event {

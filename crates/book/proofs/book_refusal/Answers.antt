@@ -1,24 +1,17 @@
 use mathlib.Core.Path.{◌≡◌, sym, ◌∙◌}
 use native.Mathlib.Omega.{arith}
-use borrow.Author.Tests.{not-true, not-false}
 use Rattle.little.specs.Little.{num}
-use Rattle.bookformat.specs.Facts.{Header}
 use Rattle.bookformat.proofs.Told.{header_facts}
 use Rattle.book.proofs.book_refusal.Goals as goal
-use Rattle.book.proofs.book_refusal.Goals.{Else-not-header_fine}
-
--- the header's facts after the test
-fine : (c : Else-not-header_fine) → Header c.args.b.now
-fine c = header_facts _ (sym c.header_fine.ensures ∙ not-false _ c.if-not-header_fine.false)
 
 pub returns-then-not-header_fine : goal.returns-then-not-header_fine
-returns-then-not-header_fine c = simp (sym c.header_fine.ensures ∙ not-true _ c.if-not-header_fine.true)
+returns-then-not-header_fine c = simp (sym c.header_fine.ensures ∙ c.if-not-header_fine.true)
 
 pub get-a-requires : goal.get-a-requires
-get-a-requires c = omega (arith, fine c)
+get-a-requires c = omega (arith, (header_facts c.args.b.now (sym c.header_fine.ensures ∙ c.if-not-header_fine.false)))
 
 pub get-r-requires : goal.get-r-requires
-get-r-requires c = omega (arith, fine c)
+get-r-requires c = omega (arith, (header_facts c.args.b.now (sym c.header_fine.ensures ∙ c.if-not-header_fine.false)))
 
 pub overflow_mul-a : goal.overflow_mul-a
 overflow_mul-a c = omega arith
@@ -27,12 +20,12 @@ pub overflow_add-a : goal.overflow_add-a
 overflow_add-a c = omega arith
 
 pub records_fine-requires : goal.records_fine-requires
-records_fine-requires c = omega (arith, fine c)
+records_fine-requires c = omega (arith, (header_facts c.args.b.now (sym c.header_fine.ensures ∙ c.if-not-header_fine.false)))
 
 pub returns-then-records_fine : goal.returns-then-records_fine
 returns-then-records_fine c =
     let b = c.args.b.now in
-    let h = sym c.header_fine.ensures ∙ not-false _ c.if-not-header_fine.false in
+    let h = sym c.header_fine.ensures ∙ c.if-not-header_fine.false in
     let e : num 4 0 b ≡ c.get-a.result = sym c.get-a.ensures.0 in
     let g : num 4 4 b ≡ c.get-r.result = sym c.get-r.ensures.0 in
     simp h (simp (e, g) (simp (sym c.records_fine.ensures ∙ c.if-records_fine.true)))
@@ -40,7 +33,7 @@ returns-then-records_fine c =
 pub returns-else-records_fine : goal.returns-else-records_fine
 returns-else-records_fine c =
     let b = c.args.b.now in
-    let h = sym c.header_fine.ensures ∙ not-false _ c.if-not-header_fine.false in
+    let h = sym c.header_fine.ensures ∙ c.if-not-header_fine.false in
     let e : num 4 0 b ≡ c.get-a.result = sym c.get-a.ensures.0 in
     let g : num 4 4 b ≡ c.get-r.result = sym c.get-r.ensures.0 in
     simp h (simp (e, g) (simp (sym c.records_fine.ensures ∙ c.if-records_fine.false)))

@@ -1,7 +1,6 @@
 use Prim.Native.Nat.{suc, ◌-◌}
 use mathlib.Core.Path.{◌≡◌, sym, ◌∙◌}
 use native.Mathlib.Omega.{arith}
-use borrow.Author.Tests.{not-true, not-false}
 use Rattle.bookformat.proofs.Tests.{and_on, and_off}
 use Rattle.book.proofs.records_fine.Goals as goal
 
@@ -9,14 +8,14 @@ pub returns-then-not-record_fine : goal.returns-then-not-record_fine
 returns-then-not-record_fine c =
     let l = c.loop-left in
     let e : l.left ≡ suc (l.left - 1) = omega arith in
-    let t = sym c.record_fine.ensures ∙ not-true _ c.if-not-record_fine.true in
+    let t = sym c.record_fine.ensures ∙ c.if-not-record_fine.true in
     sym (and_off _ _ t) ∙ (rw e at l.invariant.0)
 
 pub loop-left-preserved : goal.loop-left-preserved
 loop-left-preserved c =
     let l = c.loop-left in
     let e : l.left ≡ suc (l.left - 1) = omega arith in
-    let t = sym c.record_fine.ensures ∙ not-false _ c.if-not-record_fine.false in
+    let t = sym c.record_fine.ensures ∙ c.if-not-record_fine.false in
     (sym (and_on _ _ t) ∙ (rw e at l.invariant.0), omega arith)
 
 pub returns : goal.returns
