@@ -21,13 +21,13 @@ use spans::{LAYOUT, LAYOUT_NUMBER};
 pub use would::would_answer;
 
 // An account by value.
-#[derive(Drop)]
+#[derive(Clone, Copy)]
 pub struct Account {
     pub memory: [u64; WORDS],
 }
 
 // The answer to an event, and the account afterwards.
-#[derive(Drop)]
+#[derive(Clone, Copy)]
 pub struct Posted {
     pub answer: Answer,
     pub account: Account,

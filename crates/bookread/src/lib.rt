@@ -105,7 +105,7 @@ pub fn read(
     amounts: &mut [u64],
 ) -> Outcome
     ensures gave { Gave b.now counts.old kinds.old options.old days.old amounts.old counts.new kinds.new options.new days.new amounts.new (outcome_number result) }
-    ensures value { result ≡ outcome_of (outcome_number result) }
+    ensures outcome { result ≡ outcome_of (outcome_number result) }
 {
     let n = read_refusal(
         b,

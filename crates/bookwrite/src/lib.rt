@@ -192,7 +192,7 @@ pub fn write(
     out: &mut [u8],
 ) -> Outcome
     ensures wrote_book { WroteBook counts.now kinds.now options.now days.now amounts.now out.old out.new (outcome_number result) }
-    ensures value { result ≡ outcome_of (outcome_number result) }
+    ensures outcome { result ≡ outcome_of (outcome_number result) }
 {
     let n = write_refusal(counts, kinds, options, days, amounts, out.len());
     if n != 0 {

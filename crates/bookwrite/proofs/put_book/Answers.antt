@@ -10,32 +10,23 @@ use Rattle.bookformat.specs.Book.{base, account_table, body}
 use Rattle.bookformat.specs.Lent.{lent}
 use Rattle.bookformat.proofs.Trips.{length_table}
 use Rattle.bookformat.proofs.Stored.{length_lent}
-use borrow.Author.Rules.{rules}
-use Rattle.bookwrite.proofs.put_book.Statement.{statement}
-use Rattle.bookwrite.proofs.put_book.Tie as tie
+use Rattle.bookwrite.proofs.put_book.Goals as goal
 
-returns : tie.Need-returns
+pub returns : goal.returns
 returns c =
-    let k = c.before.before.before.before.before.before.before.before.before.before in
-    let s = k.before.before.before.before.before.before.before.before.args in
+    let s = c.args in
     let cs = s.counts.now in
     let n = length s.kinds.now in
     let es = lent n 0 s.kinds.now s.options.now s.days.now s.amounts.now in
     let t = account_table (base (length cs)) cs in
     let head = le 4 (length cs) ++ le 4 n in
-    let o1 = c.before.before.before.before.before.before.before.before.before.before.put-entry.new.0 in
-    let o2 = c.before.before.before.before.before.before.put-table.new.1.0 in
+    let o1 = c.put_entry.new.out in
+    let o2 = c.put_table.new.out in
     let q : base (length cs) ≡ 8 + length t = omega (arith, length_table cs (base (length cs))) in
     let r : 8 ≡ 0 + length head = simp (length-append, length_le) in
     rw (length_lent n 0 s.kinds.now s.options.now s.days.now s.amounts.now)
-    (c.before.before.put-records.ensures
-    ∙ sets_then t (body es) o1 o2 8 (base (length cs)) c.before.before.before.before.before.before.put-table.ensures q
+    (c.put_records.ensures
+    ∙ sets_then t (body es) o1 o2 8 (base (length cs)) c.put_table.ensures q
     ∙ sets_then head (t ++ body es) s.out.now o1 0 8
-    c.before.before.before.before.before.before.before.before.before.before.put-entry.ensures r
+    c.put_entry.ensures r
     ∙ rw append_assoc)
-
-pub put-book-spec : {M : Type 1} → statement M
-put-book-spec =
-    tie.close
-    (tie.spec (λ c κs. search rules) (λ c κs. search rules) (λ c. search rules) (λ c. search rules)
-    (λ c κs. search rules) (λ c. search rules) returns)
