@@ -87,7 +87,7 @@ fn history_refusal(b: &[u8], i: usize, n: usize, m: usize) -> u8
 // past the last has no records. A slice longer than the history keeps its tail; a refusal changes nothing.
 pub fn history(b: &[u8], i: usize, numbers: &mut [u8], owed: &mut [i64]) -> Outcome
     ensures told_history { ToldHistory b.now i numbers.old numbers.new owed.old owed.new (outcome_number result) }
-    ensures value { result ≡ outcome_of (outcome_number result) }
+    ensures outcome { result ≡ outcome_of (outcome_number result) }
 {
     let n = history_refusal(b, i, numbers.len(), owed.len());
     if n != 0 {

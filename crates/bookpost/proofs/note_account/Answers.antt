@@ -9,7 +9,7 @@ use Rattle.bookpost.proofs.note_account.Goals as goal
 pub loop-left-init : goal.loop-left-init
 loop-left-init c =
     let p = c.account-s in
-    note_begin _ _ _ _ p.result c.fresh-account.result.memory c.requires.0 (p.ensures.1 c.requires.0) c.fresh-account.ensures c.requires.1 c.requires.2
+    note_begin _ _ _ _ p.result c.fresh-account.result.memory c.requires.0 (p.ensures.account c.requires.0) c.fresh-account.ensures c.requires.1 c.requires.2
 
 pub bounds-numbers-at : goal.bounds-numbers-at
 bounds-numbers-at c = omega (arith, c.loop-left.invariant)
@@ -33,7 +33,7 @@ loop-left-preserved c =
     let z = c.requires.0 in
     note_turn _ _ _ _ l.numbers l.owed l.k l.left l.at l.account.memory l.invariant c.record.result c.post_through-p.result
     c.number.result (to_z w64 (of_z w64 c.owed.result)) z (omega arith)
-    (c.record.ensures.1 z) c.post_through-p.ensures c.number.ensures (y ∙ c.owed.ensures)
+    (c.record.ensures.in_book z) c.post_through-p.ensures c.number.ensures (y ∙ c.owed.ensures)
 
 pub shape_of-numbers : goal.shape_of-numbers
 shape_of-numbers c = c.loop-left.invariant.number_same
