@@ -1,0 +1,32 @@
+use mathlib.Core.List.{[], ◌∷◌, ◌++◌}
+use native.Mathlib.Omega.{arith}
+use Rattle.basics.specs.Ascii.{ascii}
+use Rattle.text.specs.Decimal.{decimal}
+use Rattle.text.proofs.Numerals.{put_then, room_then}
+use Rattle.report.specs.Report.{refused_text}
+use Rattle.report.proofs.Listing.{written, too_short, refused_length}
+use Rattle.report.proofs.put_refusal.Goals as goal
+
+pub returns-then-out-width : goal.returns-then-out-width
+returns-then-out-width c =
+    let s = c.args in
+    too_short (refused_text s.n) s.out.now (omega (arith, refused_length s.n, c.width.ensures.0))
+
+pub put_number-requires : goal.put_number-requires
+unfolding refused_text
+put_number-requires c =
+    let s = c.args in
+    let a = c.put_bytes-p in
+    let w = c.width in
+    room_then (ascii "book refused ") (decimal s.n ++ (10 ∷ [])) s.out.now a.new.out 0 a.result
+    (omega (arith, refused_length s.n, w.ensures.0)) a.ensures
+
+pub returns : goal.returns
+unfolding refused_text
+returns c =
+    let s = c.args in
+    let a = c.put_bytes-p in
+    let w = c.width in
+    written (refused_text s.n) s.out.now _ _ (omega (arith, refused_length s.n, w.ensures.0))
+    (put_then (ascii "book refused ") (decimal s.n ++ (10 ∷ [])) s.out.now a.new.out _ 0 a.result _ a.ensures
+    c.put_number.ensures)
