@@ -5,12 +5,12 @@ use Rattle.hollupaq.proofs.bills.hollupaq_bill.Goals as goal
 
 pub overflow_add-result : goal.overflow_add-result
 overflow_add-result c =
-    omega (arith, bill_small c.args.class c.args.usage _ (sym c.b-1.given.1 ∙ c.bill-b.ensures))
+    omega (arith, bill_small c.args.class c.args.usage _ c.in-Cents.ensures)
 
 pub returns-in-Cents : goal.returns-in-Cents
 returns-in-Cents c =
-    bill_told c.args.class c.args.usage _ (sym c.b-1.given.1 ∙ c.bill-b.ensures)
+    bill_told c.args.class c.args.usage _ c.in-Cents.ensures
 
 pub returns-in-Refused : goal.returns-in-Refused
 returns-in-Refused c =
-    bill_not c.args.class c.args.usage _ (sym c.b-in-Refused-1.given.1 ∙ c.bill-b.ensures)
+    bill_not c.args.class c.args.usage _ c.in-Refused.ensures

@@ -2,8 +2,8 @@ use Rattle.hollupaq.proofs.Demand.{begun, not_begun}
 use Rattle.hollupaq.proofs.kept.hollupaq_fresh.Goals as goal
 
 pub returns-then-account-eq-WORDS : goal.returns-then-account-eq-WORDS
-returns-then-account-eq-WORDS c = let k = c in let s =
-    k.before.before.before.before in begun s.args.account.now k.clear.new.0 k.before.before.if1.true k.clear.ensures
+returns-then-account-eq-WORDS c =
+    begun c.args.account.now c.clear.new.m c.if-account-eq-WORDS.true c.clear.ensures
 
 pub returns : goal.returns
 returns c = not_begun c.args.account.now c.if-account-eq-WORDS.false

@@ -5,7 +5,7 @@ use Rattle.hollupaq.specs.Library.{answer_word}
 use Rattle.hollupaq.proofs.kept.word_of.Goals as goal
 
 pub overflow_add-result : goal.overflow_add-result
-overflow_add-result c = omega (arith, ap receipt_of c.a-1.given.1, c.requires)
+overflow_add-result c = omega (arith, ap receipt_of c.in-Accepted.is, c.requires)
 
 pub returns-in-Accepted : goal.returns-in-Accepted
-returns-in-Accepted c = sym (ap answer_word c.a-1.given.1)
+returns-in-Accepted c = sym (ap answer_word c.in-Accepted.is)
