@@ -45,7 +45,7 @@ use Rattle.account.specs.State.{State, sizes, account_size, state_of, state_on, 
 use Rattle.account.specs.Post.{receipt_at, Judges}
 use Rattle.account.specs.Looks.{Became, Applied, Free, only_item}
 use Rattle.account.proofs.Exits.{well_formed, refusal_first, refusal_view, judges_refused, judges_accepted}
-use Rattle.account.proofs.Steps.{money-by, steps_are, receipt_by}
+use Rattle.account.proofs.Steps.{money_by, steps_are, receipt_by}
 
 -- ---- what an event that passes has room for
 module _ (m : List ℕ) (e : Event) (f : Free m e) where
@@ -178,7 +178,7 @@ pub payment_by_lem : (m : List ℕ) (l : length m ≡ account_size) (e : Event) 
     → Became (back sizes 5 zs (back sizes 6 ys (back sizes 7 ws m))) (money_after (state_on m) e (view (state_on m) e))
 payment_by_lem m l e z ws a ys b zs c p q r =
     let v = view (state_on m) e in
-    money-by m l e ws a ys b zs v c (p ∙ simp (z, add-zero)) q
+    money_by m l e ws a ys b zs v c (p ∙ simp (z, add-zero)) q
     (r ∙ payment_arranged (arrangement_on (part sizes 5 (back sizes 6 ys (back sizes 7 ws m)))) e v.arrears v.payment z)
 
 -- what a payment asks of the ledger

@@ -53,18 +53,18 @@ module _ (m : List ℕ) (l : length m ≡ account_size) (e : Event) where
     receipts_still = ap (λ cs. get_or cs 6 []) (then sizes 7 ws (omega arith) a (here sizes m l)).cuts
 
     module _ (ys : List ℕ) (b : length ys ≡ receipts_size) where
-      pub arrangement-still : part sizes 5 (back sizes 6 ys (back sizes 7 ws m)) ≡ part sizes 5 m
-      arrangement-still = ap (λ cs. get_or cs 5 []) (then sizes 6 ys (omega arith) b (then sizes 7 ws (omega arith) a (here sizes m l))).cuts
+      pub arrangement_still : part sizes 5 (back sizes 6 ys (back sizes 7 ws m)) ≡ part sizes 5 m
+      arrangement_still = ap (λ cs. get_or cs 5 []) (then sizes 6 ys (omega arith) b (then sizes 7 ws (omega arith) a (here sizes m l))).cuts
 
-      pub money-by : (zs : List ℕ) (v : View) → length zs ≡ arrangement_size
+      pub money_by : (zs : List ℕ) (v : View) → length zs ≡ arrangement_size
           → ledger_on ws ≡ ledger_after (state_on m).ledger e (charges e) (charge_of v e) (credit_of v e)
           → receipts_on ys ≡ receipts_after (receipts_on (part sizes 6 (back sizes 7 ws m))) e
           → arrangement_on zs ≡ arrangement_after (arrangement_on (part sizes 5 (back sizes 6 ys (back sizes 7 ws m)))) e v.arrears v.payment
           → Became (back sizes 5 zs (back sizes 6 ys (back sizes 7 ws m))) (money_after (state_on m) e v)
-      money-by zs v c p q r =
+      money_by zs v c p q r =
           let t = then sizes 5 zs (omega arith) c (then sizes 6 ys (omega arith) b (then sizes 7 ws (omega arith) a (here sizes m l))) in
           let q2 = q ∙ ap (λ w. receipts_after (receipts_on w) e) receipts_still in
-          let r2 = r ∙ ap (λ w. arrangement_after (arrangement_on w) e v.arrears v.payment) arrangement-still in
+          let r2 = r ∙ ap (λ w. arrangement_after (arrangement_on w) e v.arrears v.payment) arrangement_still in
           record {
             words_are = t.words_are;
             state_is = ap state_of t.cuts ∙ (λ i. with_money (state_on m) (r2 i) (q2 i) (p i));

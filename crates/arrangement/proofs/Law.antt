@@ -1,6 +1,6 @@
 -- The law of the part: after a lawful history it answers what the rules say.
 use Prim.Native.Nat.{ℕ, ◌*◌, ◌≤◌, zero-le}
-use mathlib.Core.Path.{◌≡◌, refl, ap, ◌∙◌}
+use mathlib.Core.Path.{◌≡◌, ap, ◌∙◌}
 use mathlib.Core.Bool.{true}
 use mathlib.Core.List.{[], ◌∷◌}
 use native.Mathlib.Omega.{arith}

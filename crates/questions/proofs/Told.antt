@@ -1,8 +1,8 @@
 -- What the memory of a history answers is what the history says: the law of each question.
 use Prim.Native.Nat.{ℕ, ◌≤◌}
-use mathlib.Core.Path.{◌≡◌, refl, ap, sym, ◌∙◌}
+use mathlib.Core.Path.{◌≡◌, refl, ap, ◌∙◌}
 use mathlib.Core.Bool.{Bool, true, false}
-use mathlib.Core.List.{List, map, map-map}
+use mathlib.Core.List.{map, map-map}
 use lib.ListN.{length}
 use Rattle.basics.proofs.Cases.{on_lt}
 use Rattle.rules.specs.Limits.{final_day}

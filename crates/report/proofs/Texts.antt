@@ -10,7 +10,7 @@ use Rattle.basics.proofs.Cases.{on}
 use Rattle.bookformat.specs.Book.{book_refusal}
 use Rattle.bookformat.proofs.Told.{book_facts}
 use Rattle.text.proofs.Numerals.{width_short}
-use Rattle.report.specs.Report.{listing, refused_text, text_by, text_of, input_text, most_room, short_for, WroteText}
+use Rattle.report.specs.Report.{refused_text, text_by, text_of, input_text, most_room, short_for, WroteText}
 use Rattle.report.specs.declared.Printed.{Printed}
 use Rattle.report.specs.declared.Printed.TheVariants.{Bytes, Refused}
 use Rattle.report.proofs.Listing.{listing_length, listing_short, refused_length}

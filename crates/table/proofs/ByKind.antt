@@ -106,9 +106,9 @@ module _ (v : View) (e : Event) where
       )
 
   -- ---- the kinds that make an item; the amount of it stops at the largest number
-  module _ (charge : ℕ) (worked-out : charge ≡ min (charge_of v e) largest) where
+  module _ (charge : ℕ) (worked_out : charge ≡ min (charge_of v e) largest) where
     item_is : item_rows v.open_count v.charged charge ≡ item_rows v.open_count v.charged (charge_of v e)
-    item_is = rw (worked-out, passing v.charged (charge_of v e))
+    item_is = rw (worked_out, passing v.charged (charge_of v e))
 
     pub of_bill : (e.kind ≡ bill) ⊎ (e.kind ≡ fee) → item_rows v.open_count v.charged charge ≡ from_row5 v e
     unfolding from_row5

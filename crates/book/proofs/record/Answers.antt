@@ -18,6 +18,6 @@ returns c =
     let s = c.args in
     let p : 8 + 8 * c.get-a.result + 16 * s.k ≡ base (accounts s.b.now) + 16 * s.k = omega arith in
     let t =
-      record_told s.b.now s.k c.event_at.result
-      (rw (lt-ltb s.k (whole_records s.b.now) (omega arith)) (c.event_at.ensures ∙ ap (λ q. event_at q s.b.now) p)) in
+    record_told s.b.now s.k c.event_at.result
+    (rw (lt-ltb s.k (whole_records s.b.now) (omega arith)) (c.event_at.ensures ∙ ap (λ q. event_at q s.b.now) p)) in
     record { value = t.0; in_book = t.1 }

@@ -11,10 +11,10 @@ returns-then-n-ne0 c =
     let z = rw e at c.if-n-ne0.true in
     record {
       gave =
-        record {
-          answer = e;
-          memory = kept_all _ (decode s.b.now) s.counts.now s.kinds.now s.options.now s.days.now s.amounts.now z;
-        };
+          record {
+            answer = e;
+            memory = kept_all _ (decode s.b.now) s.counts.now s.kinds.now s.options.now s.days.now s.amounts.now z;
+          };
       outcome = stopped _ c.if-n-ne0.true;
     }
 

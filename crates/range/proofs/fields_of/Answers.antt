@@ -1,9 +1,6 @@
-use Prim.Native.Nat.{ℕ, ◌+◌, ◌≤◌, zero-le}
-use mathlib.Core.Path.{◌≡◌, sym}
+use Prim.Native.Nat.{ℕ, ◌+◌, ◌≤◌}
+use mathlib.Core.Path.{◌≡◌}
 use native.Mathlib.Omega.{arith}
-use lib.ListN.{get_or-eq_default}
-use Rattle.basics.proofs.Cases.{on_eq}
-use Rattle.rules.specs.Range.{unknown, fields}
 use Rattle.range.proofs.fields_of.Goals as goal
 
 more : (k n : ℕ) → n ≤ k → (k ≡ n → ⊥) → n + 1 ≤ k
@@ -56,4 +53,3 @@ returns-in-15 c = rw c.in-15.is
 
 pub returns-in-16 : goal.returns-in-16
 returns-in-16 c = rw c.in-16.is
-

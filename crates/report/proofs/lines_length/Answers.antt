@@ -1,4 +1,3 @@
-use Prim.Native.Nat.{◌-◌}
 use native.Mathlib.Omega.{arith}
 use Rattle.report.proofs.Listing.{count_begin, line_counted, all_counted}
 use borrow.Author.Rules.{rules}

@@ -1,6 +1,4 @@
 use Rattle.span.proofs.Law.{whole}
-use Rattle.span.proofs.store_word.Reads as reads
-use Rattle.span.proofs.store_word.Lts as lts
 use Rattle.span.proofs.store_word.Goals as goal
 
 -- src/lib.rt:18:5

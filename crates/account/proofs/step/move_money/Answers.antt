@@ -1,5 +1,5 @@
 use mathlib.Core.Path.{◌∙◌}
-use Rattle.account.proofs.Steps.{passing_room, charge_exact, money_room, receipts_still, arrangement-still, money-by}
+use Rattle.account.proofs.Steps.{passing_room, charge_exact, money_room, receipts_still, arrangement_still, money_by}
 use borrow.Author.Rules.{rules}
 use Rattle.account.proofs.step.move_money.Goals as goal
 
@@ -11,8 +11,8 @@ step-requires c =
       w_len = search rules;
       ledger_fit = p.fit.fit.ledger_fit;
       ledger_room =
-        rw (c.credit-credit.ensures, c.charges-adds.ensures, charge_exact a.m.now a.e a.v a.charge p)
-            (money_room a.m.now a.e a.v a.charge p);
+          rw (c.credit-credit.ensures, c.charges-adds.ensures, charge_exact a.m.now a.e a.v a.charge p)
+          (money_room a.m.now a.e a.v a.charge p);
     }
 
 pub step-requires-2 : goal.step-requires-2
@@ -24,7 +24,7 @@ pub step-requires-3 : goal.step-requires-3
 step-requires-3 c =
     let a = c.args in (
       search rules,
-      rw (arrangement-still a.m.now c.requires.fit.words_are a.e c.step.new.w (search rules) c.step-2.new.w (search rules))
+      rw (arrangement_still a.m.now c.requires.fit.words_are a.e c.step.new.w (search rules) c.step-2.new.w (search rules))
           c.requires.fit.fit.arrangement_fit,
       c.requires.well,
       (passing_room a.m.now a.e a.v a.charge c.requires).payment_room,
@@ -33,7 +33,7 @@ step-requires-3 c =
 pub returns : goal.returns
 returns c =
     let a = c.args in
-    money-by a.m.now c.requires.fit.words_are a.e c.step.new.w (search rules) c.step-2.new.w (search rules) c.step-3.new.w
+    money_by a.m.now c.requires.fit.words_are a.e c.step.new.w (search rules) c.step-2.new.w (search rules) c.step-3.new.w
     a.v (search rules)
     (c.step.ensures ∙ rw (c.credit-credit.ensures, c.charges-adds.ensures, charge_exact a.m.now a.e a.v a.charge c.requires))
     c.step-2.ensures

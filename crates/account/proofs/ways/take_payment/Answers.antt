@@ -3,7 +3,7 @@ use Rattle.basics.proofs.Cases.{at_most}
 use Rattle.rules.specs.Kinds.{returned_payment}
 use Rattle.rules.specs.History.{is}
 use Rattle.rules.specs.Limits.{limit}
-use Rattle.account.proofs.Steps.{receipts_still, arrangement-still}
+use Rattle.account.proofs.Steps.{receipts_still, arrangement_still}
 use Rattle.account.proofs.OwnWays.{payment_ledger, payment_by_lem}
 use borrow.Author.Rules.{rules}
 use Rattle.account.proofs.ways.take_payment.Goals as goal
@@ -27,7 +27,7 @@ step-requires-3 c =
     let a = c.args in
     let f = c.requires.0.fit in (
       search rules,
-      rw (arrangement-still a.m.now f.words_are a.e c.step.new.w (search rules) c.step-2.new.w (search rules)) f.fit.arrangement_fit,
+      rw (arrangement_still a.m.now f.words_are a.e c.step.new.w (search rules) c.step-2.new.w (search rules)) f.fit.arrangement_fit,
       c.requires.0.well,
       at_most (is returned_payment a.e) 0 limit (λ _. zero-le),
     )

@@ -1,4 +1,3 @@
-use mathlib.Core.Path.{sym, ◌∙◌}
 use native.Mathlib.Omega.{arith}
 use Rattle.hollupaq.proofs.Told.{bill_small, bill_told, bill_not}
 use Rattle.hollupaq.proofs.bills.hollupaq_bill.Goals as goal

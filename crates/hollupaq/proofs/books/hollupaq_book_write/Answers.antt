@@ -1,6 +1,5 @@
 use mathlib.Core.Path.{sym, ◌∙◌}
 use native.Mathlib.Omega.{arith}
-use Rattle.bookformat.specs.Facts.{Sizes}
 use Rattle.hollupaq.proofs.Told.{stored, stored_not, stored_sizes}
 use Rattle.hollupaq.proofs.books.hollupaq_book_write.Goals as goal
 
@@ -12,28 +11,28 @@ returns-then-n-ne0 c =
     (rw e at c.if-n-ne0.true))
 
 pub overflow_add-result : goal.overflow_add-result
-overflow_add-result c = 
+overflow_add-result c =
     let s = c.args in
     let z = stored_sizes s.counts.now s.kinds.now s.options.now s.days.now s.amounts.now s.out.now _ _ c.write-o.ensures.wrote_book
     (sym c.number-n.ensures ∙ c.if-n-ne0.false) in
     omega (arith, z)
 
 pub overflow_mul-result-2 : goal.overflow_mul-result-2
-overflow_mul-result-2 c = 
+overflow_mul-result-2 c =
     let s = c.args in
     let z = stored_sizes s.counts.now s.kinds.now s.options.now s.days.now s.amounts.now s.out.now _ _ c.write-o.ensures.wrote_book
     (sym c.number-n.ensures ∙ c.if-n-ne0.false) in
     omega (arith, z)
 
 pub overflow_add-result-2 : goal.overflow_add-result-2
-overflow_add-result-2 c = 
+overflow_add-result-2 c =
     let s = c.args in
     let z = stored_sizes s.counts.now s.kinds.now s.options.now s.days.now s.amounts.now s.out.now _ _ c.write-o.ensures.wrote_book
     (sym c.number-n.ensures ∙ c.if-n-ne0.false) in
     omega (arith, z)
 
 pub overflow_add-result-3 : goal.overflow_add-result-3
-overflow_add-result-3 c = 
+overflow_add-result-3 c =
     let s = c.args in
     let z = stored_sizes s.counts.now s.kinds.now s.options.now s.days.now s.amounts.now s.out.now _ _ c.write-o.ensures.wrote_book
     (sym c.number-n.ensures ∙ c.if-n-ne0.false) in
