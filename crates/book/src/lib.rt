@@ -132,7 +132,7 @@ pub fn record(b: &[u8], k: usize) -> Event
 // Where the records of account i are; no records past the end. Of a book that is refused, what its table says.
 pub fn account(b: &[u8], i: usize) -> Span
     ensures value { result ≡ span_at b.now i }
-    ensures account { book_refusal b.now ≡ 0 → IsAccount b.now i result }
+    ensures in_book { book_refusal b.now ≡ 0 → IsAccount b.now i result }
 {
     if entries(b) <= i as u64 {
         return Span { first: 0, count: 0 };

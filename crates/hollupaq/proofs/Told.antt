@@ -11,7 +11,7 @@ use Rattle.rules.specs.Limits.{limit, most_amount}
 use Rattle.rules.specs.declared.Billed.{Billed}
 use Rattle.rules.specs.declared.Billed.TheVariants as bill
 use Rattle.rules.specs.Tariff.{cents_of, bill_refusal, bill_of, bill_number, bill_cents}
-use Rattle.tariff.proofs.Law.{allowed, fields_fit}
+use Rattle.tariff.proofs.Law.{allowed, bill_in_range}
 use Rattle.bookformat.specs.Book.{size}
 use Rattle.bookformat.specs.Lent.{sizes_fine, kinds_fine, write_refusal, WroteBook}
 use Rattle.bookformat.specs.Facts.{Sizes}
@@ -67,7 +67,7 @@ module _ (class usage n : ℕ) where
   pub bill_small : bill.Cents n ≡ bill_of class usage → n ≤ most_amount
   bill_small e =
       let p = cents_by (bill_refusal class usage) (cents_of class usage) n e in
-      omega (arith, p.1, fields_fit class usage (allowed class usage p.0))
+      omega (arith, p.1, bill_in_range class usage (allowed class usage p.0))
 
   pub bill_told : bill.Cents n ≡ bill_of class usage → 256 + n ≡ told (bill_refusal class usage) (cents_of class usage)
   bill_told e =

@@ -50,7 +50,7 @@ pub allowed : (class usage : ℕ) → bill_refusal class usage ≡ 0 → Allowed
 allowed class usage z =
     let p = chosen (is_class class && leb usage most_usage) 0 23 z (λ e. omega (arith, e)) in
     let f = links (leb 1 class) (leb class last_class ∷ leb usage most_usage ∷ []) p in
-    record { from_1 = leb-true 1 class f.0; to_last = leb-true class last_class f.1.0; fields_fit = leb-true usage most_usage f.1.1.0 }
+    record { from_1 = leb-true 1 class f.0; to_last = leb-true class last_class f.1.0; usage_in_range = leb-true usage most_usage f.1.1.0 }
 
 -- ---- for a class and a usage
 module _ (class usage : ℕ) (a : Allowed class usage) where
@@ -62,7 +62,7 @@ module _ (class usage : ℕ) (a : Allowed class usage) where
   pub energy_most : energy_by (row_of class) usage ≤ most_energy
   energy_most =
       let top = leb-true (energy_by (row_of class) most_usage) most_energy row_facts.1.0 in
-      omega (arith, growth usage most_usage a.fields_fit (omega arith) 0 (row_of class) row_facts.0)
+      omega (arith, growth usage most_usage a.usage_in_range (omega arith) 0 (row_of class) row_facts.0)
 
   pub basic_in : (1 ≤ basic_of class) × (basic_of class ≤ most_basic)
   basic_in =
@@ -70,21 +70,21 @@ module _ (class usage : ℕ) (a : Allowed class usage) where
       (leb-true 1 (basic_of class) f.0, leb-true (basic_of class) most_basic f.1.0)
 
   -- the range of a bill's amount
-  pub fields_fit : (1 ≤ cents_of class usage) × (cents_of class usage ≤ most_amount)
+  pub bill_in_range : (1 ≤ cents_of class usage) × (cents_of class usage ≤ most_amount)
   unfolding cents_of
-  fields_fit = let e = energy_most in let b = basic_in in (omega arith, omega arith)
+  bill_in_range = let e = energy_most in let b = basic_in in (omega arith, omega arith)
 
   -- so that row 3 lets a bill of that amount pass, on any day
   pub posts : (t : ℕ) → in_range (record { kind = kinds.bill; option = 0; day = t; amount = cents_of class usage }) ≡ true
   unfolding in_range
   posts t =
       and_both (within 0 0 0) (within 1 most_amount (cents_of class usage)) (within_in 0 0 0 (omega arith) (omega arith))
-      (within_in 1 most_amount (cents_of class usage) fields_fit.0 fields_fit.1)
+      (within_in 1 most_amount (cents_of class usage) bill_in_range.0 bill_in_range.1)
 
   -- the bill grows strictly with the usage
   pub grows : (less : ℕ) → less < usage → cents_of class less < cents_of class usage
   unfolding cents_of
-  grows less l = omega (arith, growth less usage (omega arith) a.fields_fit 0 (row_of class) row_facts.0)
+  grows less l = omega (arith, growth less usage (omega arith) a.usage_in_range 0 (row_of class) row_facts.0)
 
   pub three_lines : length (lines_from 0 (row_of class) usage) ≡ 3
   three_lines = lines_length 0 (row_of class) usage ∙ eqb-true (length (row_of class)) 3 row_facts.1.1.0
@@ -95,4 +95,4 @@ module _ (class usage : ℕ) (a : Allowed class usage) where
 
   -- the kilowatt-hours of the lines are the usage
   pub whole : used_in (lines_from 0 (row_of class) usage) ≡ usage
-  whole = omega (arith, all_used 0 (row_of class) usage row_facts.0 a.fields_fit)
+  whole = omega (arith, all_used 0 (row_of class) usage row_facts.0 a.usage_in_range)

@@ -20,7 +20,7 @@ use Rattle.tariff.specs.Blocks.{start_of}
 abbrev pub zero_block : Block
 zero_block = record { 0 = 0; 1 = 0 }
 
--- a list is as long as its image: for an array of structs, `search (needs, length_of)`
+-- a list is as long as its image: for an array of structs, `search (rules, length_of)`
 pub length_of : (A B : Type 0) (f : A → B) (l : List A) (n : ℕ) → length (map f l) ≡ n → length l ≡ n
 length_of A B f l n e = sym (length-map l f) ∙ e
 

@@ -9,7 +9,7 @@ pub returns-then-entries-i : goal.returns-then-entries-i
 returns-then-entries-i c =
     let s = c.args in
     let t = account_told s.b.now s.i (record { first = 0; count = 0 }) (rw (le-ltb s.i (entries s.b.now) (omega arith))) in
-    record { value = t.0; account = t.1 }
+    record { value = t.0; in_book = t.1 }
 
 pub get-a-requires : goal.get-a-requires
 get-a-requires c = omega (arith, (entries_some c.args.b.now c.args.i (omega arith)))
@@ -39,4 +39,4 @@ pub returns : goal.returns
 returns c =
     let s = c.args in
     let t = account_told s.b.now s.i (record { first = c.minus_or_zero-first.result / 16; count = c.get-count.result }) (rw (lt-ltb s.i (entries s.b.now) (omega arith)) (cc)) in
-    record { value = t.0; account = t.1 }
+    record { value = t.0; in_book = t.1 }

@@ -12,5 +12,5 @@ returns c =
     let b = s.b.now in
     let z : book_refusal b ≡ 0 = sym c.book_refusal-refusal.ensures ∙ c.if-refusal-ne0.false in
     let a = c.account-s in
-    let n = span_length b s.i a.result z (a.ensures.account z) in
+    let n = span_length b s.i a.result z (a.ensures.in_book z) in
     rw (z, ← n) c.select8.ensures

@@ -9,7 +9,7 @@ use Rattle.bookpost.proofs.note_account.Goals as goal
 pub loop-left-init : goal.loop-left-init
 loop-left-init c =
     let p = c.account-s in
-    note_begin _ _ _ _ p.result c.fresh-account.result.memory c.requires.0 (p.ensures.account c.requires.0) c.fresh-account.ensures c.requires.1 c.requires.2
+    note_begin _ _ _ _ p.result c.fresh-account.result.memory c.requires.0 (p.ensures.in_book c.requires.0) c.fresh-account.ensures c.requires.1 c.requires.2
 
 pub bounds-numbers-at : goal.bounds-numbers-at
 bounds-numbers-at c = omega (arith, c.loop-left.invariant)

@@ -18,7 +18,7 @@ get-requires c =
 pub loop-left-init : goal.loop-left-init
 loop-left-init c =
     let a = c.account-s in
-    turning_begun _ _ a.result c.args.m.now (a.ensures.account c.requires.0) c.requires.1
+    turning_begun _ _ a.result c.args.m.now (a.ensures.in_book c.requires.0) c.requires.1
 
 pub overflow_mul-k : goal.overflow_mul-k
 overflow_mul-k c =
