@@ -2,12 +2,35 @@
 // that says by which number the book is refused.
 #![tactic(auto)]
 
-ghost use Rattle.std.specs.Prelude.{◌≡◌};
+ghost use Rattle.std.specs.Prelude.{◌≡◌, OnOk, IfSome, length, take};
+ghost use Rattle.std.specs.Counts.{IsPrefixLen};
+ghost use Rattle.std.specs.Io.KnownBytes.{Appends, Consumes};
 ghost use Rattle.report.specs.Report.{input_text};
 ghost use Rattle.standing.specs.Program.{Prints};
 
-use libc::{STDERR_FILENO, STDIN_FILENO, STDOUT_FILENO};
 use report::{LONGEST_INPUT, ROOM, report_input};
+use std::io;
+use std::io::{Read, Write};
+use std::process::ExitCode;
+
+// Reads until the memory is full, the input ends or a read fails: how many bytes stand at the start of the memory then,
+// and whether none failed.
+fn read<R: Read>(input: &mut R, memory: &mut [u8]) -> (usize, io::Result<()>)
+    ensures bound { IsPrefixLen result.0 memory.new }
+    ensures bytes { Consumes (R.remaining input.old) (R.remaining input.new) (take result.0 memory.new) }
+    ensures whole { OnOk result.1 (IfSome (R.remaining input.old)
+        (λ xs. take result.0 memory.new ≡ take (length memory.old) xs)) }
+{
+    let mut done = 0;
+    while done < memory.len() {
+        match input.read(&mut memory[done..]) {
+            Ok(0) => break,
+            Ok(got) => done += got,
+            Err(e) => return (done, Err(e)),
+        }
+    }
+    (done, Ok(()))
+}
 
 // The text for what was read, in memory with room for every text, and how many bytes it takes.
 fn print(book: &[u8], out: &mut [u8; ROOM]) -> usize
@@ -17,23 +40,49 @@ fn print(book: &[u8], out: &mut [u8; ROOM]) -> usize
     p.bytes()
 }
 
-// Said on standard error where standard output takes no more. The kit has no exit status to say it with.
-const NOT_WRITTEN: [u8; 45] = *b"standing: can't write all to standard output\n";
-
-// Hands a text to standard output: nothing but the whole text for what was read.
-fn write(book: &[u8], text: &[u8])
+// Hands a text to the output: nothing but the whole text for what was read.
+fn write<W: Write>(output: &mut W, book: &[u8], text: &[u8]) -> io::Result<()>
     requires { text.now ≡ input_text book.now }
+    ensures { OnOk result (Appends (W.contents output.old) (W.contents output.new) (input_text book.now)) }
 {
-    if !io::write_all(STDOUT_FILENO, text) {
-        io::write_all(STDERR_FILENO, &NOT_WRITTEN);
-    }
+    output.write_all(text)
 }
 
-// One byte more is read than a book may have, so that a longer file is seen.
-fn main() {
+// What the system would not do.
+#[derive(Drop)]
+enum Failed {
+    Reading,
+    Writing,
+}
+
+// The whole work, from any input to any output: what is written is the text for all that the input had, and no other
+// byte. One byte more is read than a book may have, so that a longer file is seen. Where a read fails, the text is that
+// for what came before it, and the failure is told afterwards.
+fn answer<R: Read, W: Write>(input: &mut R, output: &mut W) -> Result<(), Failed>
+    ensures { OnOk result (IfSome (R.remaining input.old)
+        (λ xs. Appends (W.contents output.old) (W.contents output.new) (input_text xs))) }
+{
     let mut book = [0u8; LONGEST_INPUT + 1];
     let mut out = [0u8; ROOM];
-    let n = io::read_full(STDIN_FILENO, &mut book);
+    let (n, all_read) = read(input, &mut book);
     let length = print(&book[..n], &mut out);
-    write(&book[..n], &out[..length]);
+    let Ok(()) = write(output, &book[..n], &out[..length]) else {
+        return Err(Failed::Writing);
+    };
+    let Ok(()) = all_read else {
+        return Err(Failed::Reading);
+    };
+    Ok(())
+}
+
+// What went wrong is said on standard error, and by the exit status.
+fn main(rt: HostRuntime) -> ExitCode {
+    let text = match answer(&mut rt.stdin(), &mut rt.stdout()) {
+        Ok(()) => return ExitCode::SUCCESS,
+        Err(Failed::Reading) => "standing: can't read all of standard input",
+        Err(Failed::Writing) => "standing: can't write all to standard output",
+    };
+    // Where standard error takes nothing either, the status is left.
+    let _ = rt.eprintln(text);
+    ExitCode::FAILURE
 }
