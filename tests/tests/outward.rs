@@ -44,7 +44,8 @@ fn crates() -> Vec<String> {
     let list = read(root().join("crates.txt"));
     list.lines()
         .filter(|line| !line.starts_with('#'))
-        .filter_map(|line| Some(line.split_once(':')?.0.to_string()))
+        // A word behind the name says what kind of library it is.
+        .filter_map(|line| Some(line.split_once(':')?.0.split(' ').next()?.to_string()))
         .collect()
 }
 
@@ -53,6 +54,15 @@ fn names(text: &str, name: &str) -> bool {
     let inside = |c: char| c.is_alphanumeric() || c == '_';
     text.match_indices(name).any(|(at, _)| {
         !text[..at].ends_with(inside) && !text[at + name.len()..].starts_with(inside)
+    })
+}
+
+/// Whether `lib.rt` hands on what a module names so: `pub use module::name;`, or with others in braces.
+fn hands_on(lib: &str, module: &str, name: &str) -> bool {
+    let start = format!("pub use {module}::");
+    lib.split(&start).skip(1).any(|rest| {
+        let list = rest.split(';').next().unwrap_or("");
+        names(list, name)
     })
 }
 
@@ -80,7 +90,7 @@ fn public(home: &str) -> Vec<Function> {
             };
             let seen = text == lib
                 || lib.contains(&format!("pub mod {module};"))
-                || lib.contains(&format!("pub use {module}::{name};"))
+                || hands_on(lib, module, name)
                 || head.starts_with("pub extern");
             if seen {
                 found.push(Function {
