@@ -1,4 +1,4 @@
-// Links the proved core, which `rt staticlib hollupaq` writes; or a library of the same functions in the folder that
+// Links the proved core, which `tools/library` writes; or a library of the same functions in the folder that
 // HOLLUPAQ_LIBRARY names, as .ci/arm does to have them answered by another processor.
 use std::env;
 use std::path::{Path, PathBuf};
@@ -13,7 +13,7 @@ fn main() {
     println!("cargo:rerun-if-changed={}", library.display());
     if !library.exists() {
         panic!(
-            "there is no {}: run `rt staticlib hollupaq` first",
+            "there is no {}: run `tools/library` first",
             library.display()
         );
     }

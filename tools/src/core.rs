@@ -1,4 +1,4 @@
-//! The proved core, called through its static library (`rt staticlib hollupaq`).
+//! The proved core, called through its static library (`tools/library`).
 mod account;
 pub mod bills;
 pub mod books;

@@ -1,9 +1,10 @@
 //! Runs the core, by its static library and as the program `standing`, against the peer.
 //!
-//! `compare [PROGRAM] [--seed N] [--books N] [--files N] [--part]`: the program is target/bin/standing if none is named, and
-//! gets so many files. The same seed gives the same books. Most books are of seed 1, so that every run reaches the same, and a
-//! sixth is of the day's own seed, so that each day tries others; `--seed N` runs that seed alone. Fewer than some thousand
-//! books do not reach everything that is asked of them: with `--part`, what they did not reach is told and does not fail.
+//! `compare [PROGRAM] [--seed N] [--books N] [--files N] [--part]`: the program is crates/standing/out/standing if none is
+//! named, and gets so many files. The same seed gives the same books. Most books are of seed 1, so that every run reaches the
+//! same, and a sixth is of the day's own seed, so that each day tries others; `--seed N` runs that seed alone. Fewer than some
+//! thousand books do not reach everything that is asked of them: with `--part`, what they did not reach is told and does not
+//! fail.
 use std::env;
 use std::path::{Path, PathBuf};
 use std::process::ExitCode;
@@ -63,7 +64,7 @@ fn main() -> ExitCode {
 
 fn arguments() -> Result<Wanted, String> {
     let mut wanted = Wanted {
-        program: PathBuf::from("target/bin/standing"),
+        program: PathBuf::from("crates/standing/out/standing"),
         seed: None,
         books: 24_000,
         files: 600,
