@@ -90,7 +90,7 @@ module _ (h : History) (e : Event) (w : Lawful h) where
 -- ---- a list of events: the account is that of the accepted ones, and the answers are those of the events alone
 pub run_same : (h : History) (es : List Event) → Lawful h → run (words_of (account_of h)) es ≡ words_of (account_of (accepted_after h es))
 run_same h [] w = refl
-run_same h (e ∷ es) w = ap (λ m. run m es) (words_found h e w) ∙ run_same (offered h e) es (offered_lawful h e w)
+run_same h (e ∷ es) w = rw (words_found h e w) (run_same (offered h e) es (offered_lawful h e w))
 
 pub answers_same : (h : History) (es : List Event) → Lawful h → answers (words_of (account_of h)) es ≡ answers_after h es
 answers_same h [] w = refl
