@@ -222,8 +222,12 @@ pub const EDGES: [Edge; 76] = [
     ("an event refused on the day after", |c| {
         c.answer == 1 && c.event.day == LAST_DAY + 1
     }),
-    ("a bill at 133 owed", |c| c.billed_at(133)),
-    ("a bill at 134 owed", |c| c.billed_at(134)),
+    ("a bill at 133 owed", |c| {
+        c.is(BILL, 0) && c.money.owed() == 133
+    }),
+    ("a bill at 134 owed", |c| {
+        c.is(BILL, 0) && c.money.owed() == 134
+    }),
     ("a bill at 266 owed", |c| c.billed_at(266)),
     ("a bill at 267 owed", |c| c.billed_at(267)),
     ("a bill at 399 owed", |c| c.billed_at(399)),

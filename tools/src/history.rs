@@ -154,9 +154,11 @@ mod tests {
 
     #[test]
     fn a_bill_adds_its_late_charge_alone() {
-        // Document 01's case l: 1.33 owed make no late charge, 1.34 one cent. Then both sides of the next cents.
-        let charges = [(133, 0), (134, 1), (266, 1), (267, 2), (399, 2), (400, 3)];
-        for (owed, late) in charges {
+        // Document 01's case l: 1.33 owed make no late charge, 1.34 one cent.
+        assert_eq!(added("0 bill 133; 0 bill 500"), [0, 0]);
+        assert_eq!(added("0 bill 134; 0 bill 500"), [0, 1]);
+        // Both sides of the next cents.
+        for (owed, late) in [(266, 1), (267, 2), (399, 2), (400, 3)] {
             assert_eq!(added(&format!("0 bill {owed}; 0 bill 500")), [0, late]);
         }
         assert_eq!(

@@ -63,8 +63,10 @@ fn cut_after_a_payment() {
 
 #[test]
 fn late_charge_by_what_is_owed() {
-    let charges = [(133, 0), (134, 1), (266, 1), (267, 2), (399, 2), (400, 3)];
-    for (owed, late) in charges {
+    assert_eq!(standing_of(&[bill(0, 133), bill(1, 1_000)]).owed, 1_133);
+    assert_eq!(standing_of(&[bill(0, 134), bill(1, 1_000)]).owed, 1_135);
+    // Both sides of the next cents.
+    for (owed, late) in [(266, 1), (267, 2), (399, 2), (400, 3)] {
         let after = standing_of(&[bill(0, owed), bill(1, 1_000)]).owed;
         assert_eq!(after, owed as i64 + 1_000 + late, "{owed} owed");
     }
