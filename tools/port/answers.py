@@ -384,7 +384,6 @@ def turn(crate, key, info):
         return re.sub(r"(?<![\w'.«-])(" + "|".join(map(re.escape, names)) + r")(?![\w'-])", lambda m: new_of[m.group(1)], text)
 
     os.makedirs(folder, exist_ok=True)
-    used = lambda body: [u for u in uses]
     if invs:
         with open(os.path.join(folder, "Invariants.antt"), "w", encoding="utf-8") as f:
             f.write(only(uses, "\n\n".join(invs)) + f"use {library}.Given as goal\n\n" + "\n\n".join(invs) + "\n")

@@ -2,11 +2,11 @@
 // that says by which number the book is refused.
 #![tactic(auto)]
 
-ghost use Rattle.std.specs.Prelude.{◌≡◌, OnOk, IfSome, length, take};
+ghost use Rattle.std.specs.Prelude.{◌≡◌, OnOk, IfErr, IfSome, length, take};
 ghost use Rattle.std.specs.Counts.{IsPrefixLen};
 ghost use Rattle.std.specs.Io.KnownBytes.{Appends, Consumes};
 ghost use Rattle.report.specs.Report.{input_text};
-ghost use Rattle.standing.specs.Program.{Prints};
+ghost use Rattle.standing.specs.Program.{AfterFailure, Prints};
 
 use report::{LONGEST_INPUT, ROOM, report_input};
 use std::io;
@@ -59,8 +59,9 @@ enum Failed {
 // byte. One byte more is read than a book may have, so that a longer file is seen. Where a read fails, the text is that
 // for what came before it, and the failure is told afterwards.
 fn answer<R: Read, W: Write>(input: &mut R, output: &mut W) -> Result<(), Failed>
-    ensures { OnOk result (IfSome (R.remaining input.old)
+    ensures whole { OnOk result (IfSome (R.remaining input.old)
         (λ xs. Appends (W.contents output.old) (W.contents output.new) (input_text xs))) }
+    ensures failed { IfErr result (λ e. AfterFailure e (R.remaining input.old) (R.remaining input.new) (W.contents output.old) (W.contents output.new)) }
 {
     let mut book = [0u8; LONGEST_INPUT + 1];
     let mut out = [0u8; ROOM];
