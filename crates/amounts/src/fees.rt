@@ -4,7 +4,7 @@ ghost use Rattle.rules.specs.Fees.{fee_of, fee_number};
 ghost use Rattle.rules.specs.Money.{late_charge};
 
 use rules::Event;
-use rules::kinds::{FEE, FINAL_NOTICE, RECONNECTION, RETURNED_PAYMENT};
+use rules::kinds::Kind;
 
 // By number, 1 to 7: connection after hours, tampering, meter test, final notice, returned check, reconnection in
 // hours, reconnection after hours.
@@ -14,25 +14,23 @@ const FEES: [u64; 7] = [7_500, 15_000, 3_000, 1_500, 2_500, 2_000, 7_500];
 pub fn fee(n: u64) -> u64
     ensures { result ≡ fee_of n }
 {
-    if n < 1 {
-        return 0;
+    match n {
+        1..=7 => FEES[(n - 1) as usize],
+        _ => 0,
     }
-    if 7 < n {
-        return 0;
-    }
-    FEES[(n - 1) as usize]
 }
 
 // The number of the fee that an event brings, 0 for none.
 pub fn fee_number(e: Event) -> u64
     ensures { result ≡ fee_number e }
 {
-    let k = e.kind;
-    let option = e.option as u64;
-    let reconnection = basics::select64(k == RECONNECTION, 6 + option, 0);
-    let returned = basics::select64(k == RETURNED_PAYMENT, 5, reconnection);
-    let notice = basics::select64(k == FINAL_NOTICE, 4, returned);
-    basics::select64(k == FEE, option, notice)
+    match Kind::try_from(e.kind) {
+        Ok(Kind::Fee) => u64::from(e.option),
+        Ok(Kind::FinalNotice) => 4,
+        Ok(Kind::ReturnedPayment) => 5,
+        Ok(Kind::Reconnection) => 6 + u64::from(e.option),
+        _ => 0,
+    }
 }
 
 // Three quarters of one per cent of what is owed, fractions dropped: 3 × owed div 400, by parts, so that no product wraps.

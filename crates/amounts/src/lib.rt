@@ -12,39 +12,37 @@ ghost use Rattle.rules.specs.Table.{charge_of, credit_of};
 
 use fees::fee_number;
 pub use fees::{fee, late_charge};
-use rules::kinds::{
-    BILL, CLOSING, DEPOSIT_MOVED, FEE, FINAL_NOTICE, PAYMENT, RECONNECTION, RETURNED_PAYMENT,
-};
+use rules::kinds::Kind;
 use rules::{Event, View};
 
 // Whether the event makes an item.
 pub fn charges(e: Event) -> bool
     ensures { result ≡ makes_item e }
 {
-    let k = e.kind;
-    (k == BILL) | (k == RETURNED_PAYMENT) | (k == FEE) | (k == FINAL_NOTICE) | (k == RECONNECTION)
+    matches!(
+        Kind::try_from(e.kind),
+        Ok(Kind::Bill | Kind::ReturnedPayment | Kind::Fee | Kind::FinalNotice | Kind::Reconnection)
+    )
 }
 
 // Whether the event moves the deposit.
 pub fn moves(e: Event) -> bool
     ensures { result ≡ moves_deposit e }
 {
-    let k = e.kind;
-    (k == DEPOSIT_MOVED) | (k == CLOSING)
+    e.is(Kind::DepositMoved) | e.is(Kind::Closing)
 }
 
 // The amount of the item that the event makes, 0 where it makes none; the largest number where the amount is more.
 pub fn charge(v: View, e: Event) -> u64
     ensures { result ≡ min (charge_of v e) largest }
 {
-    let k = e.kind;
-    match k {
-        BILL => basics::plus(
-            e.amount,
-            late_charge(basics::minus_or_zero(v.charged, v.credits)),
-        ),
-        RETURNED_PAYMENT => basics::plus(v.payment, fee(fee_number(e))),
-        FEE | FINAL_NOTICE | RECONNECTION => fee(fee_number(e)),
+    match Kind::try_from(e.kind) {
+        Ok(Kind::Bill) => {
+            let late = late_charge(v.charged.saturating_sub(v.credits));
+            e.amount.saturating_add(late)
+        }
+        Ok(Kind::ReturnedPayment) => v.payment.saturating_add(fee(fee_number(e))),
+        Ok(Kind::Fee | Kind::FinalNotice | Kind::Reconnection) => fee(fee_number(e)),
         _ => 0,
     }
 }
@@ -53,10 +51,11 @@ pub fn charge(v: View, e: Event) -> u64
 pub fn credit(v: View, e: Event) -> u64
     ensures { result ≡ credit_of v e }
 {
-    let k = e.kind;
-    basics::select64(
-        k == PAYMENT,
-        e.amount,
-        basics::select64(moves(e), v.held, 0),
-    )
+    if e.is(Kind::Payment) {
+        e.amount
+    } else if moves(e) {
+        v.held
+    } else {
+        0
+    }
 }

@@ -7,7 +7,6 @@ use lib.Dec.{eqb}
 use lib.ListN.{length, get_or}
 use Rattle.rules.specs.declared.Event.{Event}
 use Rattle.rules.specs.declared.Item.{Item}
-use Rattle.rules.specs.declared.Answer.{Answer}
 use Rattle.rules.specs.Kinds as kinds
 use Rattle.rules.specs.Deposit as deposit
 use Rattle.rules.specs.Service.{service, is_on, is_off}
@@ -16,9 +15,9 @@ use Rattle.rules.specs.Money as money
 use Rattle.rules.specs.Notice.{notice_live}
 use Rattle.rules.specs.Medical as medical
 use Rattle.rules.specs.Arrangement.{in_force}
-use Rattle.rules.specs.Answer.{number_of, receipt_of}
+use Rattle.rules.specs.Answer.{Answer, number_of, value_or, receipt_of}
 use Rattle.rules.specs.Accepted.{accepted, answers_by}
-use Rattle.rules.specs.Tariff.{bill_of, bill_number, bill_cents, bill_lines}
+use Rattle.rules.specs.Tariff.{bill_of, bill_lines}
 
 -- ---- events
 abbrev pub event : ℕ → ℕ → ℕ → ℕ → Event
@@ -160,10 +159,10 @@ gives s found n = record { name = s; events = []; asks = λ es. found; expected 
 
 -- the cents of the bill of a class and a usage, and the number that refuses one
 abbrev pub bills : String → ℕ → ℕ → ℕ → Case
-bills s class usage n = gives s (bill_cents (bill_of class usage)) n
+bills s class usage n = gives s (value_or 0 (bill_of class usage)) n
 
 abbrev pub unbilled : String → ℕ → ℕ → ℕ → Case
-unbilled s class usage n = gives s (bill_number (bill_of class usage)) n
+unbilled s class usage n = gives s (number_of (bill_of class usage)) n
 
 abbrev same : List ℕ → List ℕ → Bool
 same [] [] = true

@@ -1,6 +1,6 @@
 -- What holds of every lawful history: the accepted events of a list are one.
 use Prim.Native.Nat.{◌+◌, ◌≤◌}
-use mathlib.Core.Path.{◌≡◌, refl, ap, sym, ◌∙◌}
+use mathlib.Core.Path.{◌≡◌, refl, ap, ◌∙◌}
 use mathlib.Core.Bool.{cond}
 use mathlib.Core.List.{List, [], ◌∷◌, map}
 use native.Mathlib.Omega.{arith}
@@ -11,7 +11,7 @@ use Rattle.basics.proofs.Cases.{on}
 use Rattle.basics.proofs.Differences.{difference, less_more}
 use Rattle.rules.specs.declared.Event.{Event}
 use Rattle.rules.specs.Kinds.{bill, payment, deposit_paid, payout}
-use Rattle.rules.specs.History.{History, total}
+use Rattle.rules.specs.History.{History, total, last_posted}
 use Rattle.rules.specs.Deposit.{held}
 use Rattle.rules.specs.Money.{credited, credits, charged, owed}
 use Rattle.rules.specs.Sums.{late_charges, fees_charged, returned_payments}
@@ -31,6 +31,7 @@ use Rattle.rules.specs.Accepted.{
 }
 use Rattle.rules.proofs.Sums.{total_grows, credited_step, deposits, charged_parts}
 use Rattle.rules.proofs.Passed.{passed}
+use Rattle.rules.proofs.Numbered.{number_answered, rows_in_table}
 use Rattle.rules.proofs.Room.{payout_in}
 
 -- ---- the accepted events of a list are lawful
@@ -46,7 +47,7 @@ accepted_lawful es = after_lawful [] es tt
 
 -- ---- what is answered, by number and receipt
 number_of_lem : (h : History) (e : Event) → number_of (answer h e) ≡ refusal h e
-number_of_lem h e = on (eqb (refusal h e) 0) (λ q. rw q (sym (eqb-true (refusal h e) 0 q))) (λ q. rw q)
+number_of_lem h e = number_answered (refusal h e) (receipt_after h e) (rows_in_table (last_posted h) (view_of h e) e)
 
 receipt_of_lem : (h : History) (e : Event) → receipt_of (answer h e) ≡ cond (eqb (refusal h e) 0) (receipt_after h e) 0
 receipt_of_lem h e = on (eqb (refusal h e) 0) (λ q. rw q) (λ q. rw q)

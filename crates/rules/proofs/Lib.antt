@@ -5,6 +5,7 @@ pub mod Sums
 pub mod Ranged
 pub mod Passed
 pub mod Room
+pub mod Numbered
 pub mod Lawful
 pub mod Bounds
 pub mod Cut

@@ -2,8 +2,6 @@
 use Rattle.std.specs.Prelude.{ℕ, Bool, cond, not, ◌&&◌, ◌||◌, List, [], ◌∷◌, ◌≡◌, leb, ltb, eqb, length}
 use Rattle.rules.specs.declared.Event.{Event}
 use Rattle.rules.specs.declared.View.{View}
-use Rattle.rules.specs.declared.Answer.{Answer}
-use Rattle.rules.specs.declared.Answer.TheVariants.{Accepted, Refused}
 use Rattle.rules.specs.Kinds.{payment, disconnection}
 use Rattle.rules.specs.Limits.{final_day, enough}
 use Rattle.rules.specs.History.{History, is, last_posted, count}
@@ -16,6 +14,7 @@ use Rattle.rules.specs.Medical.{certified, approved}
 use Rattle.rules.specs.Arrangement.{in_force}
 use Rattle.rules.specs.Range.{in_range}
 use Rattle.rules.specs.Table.{refusal_by}
+use Rattle.rules.specs.Answer.{Answer, answered}
 
 -- what the table looks at when e is offered after h: the history on e's day
 abbrev pub view_of : History → Event → View
@@ -75,7 +74,7 @@ receipt_after h e = cond (is payment e) (count (is payment) (e ∷ h)) 0
 
 -- the answer to e after h: accepted with the receipt, or refused with the number
 abbrev pub answer : History → Event → Answer
-answer h e = cond (eqb (refusal h e) 0) (Accepted (receipt_after h e)) (Refused (refusal h e))
+answer h e = answered (refusal h e) (receipt_after h e)
 
 -- the answers to the events of a list, in the order posted
 abbrev pub answers_after : History → List Event → List Answer

@@ -1,14 +1,32 @@
--- Document 01's number and value of an answer, by cases.
-use Rattle.std.specs.Prelude.{ℕ}
-use Rattle.rules.specs.declared.Answer.{Answer}
-use Rattle.rules.specs.declared.Answer.TheVariants.{Accepted, Refused}
+-- An answer: a value, or refused with a number; document 01's number and value of it, by cases.
+use Rattle.std.specs.Prelude.{ℕ, Bool, true, false, cond, eqb, Result, Ok, Err}
+use Rattle.rules.specs.declared.refusals.Refusal.{Refusal}
+use Rattle.rules.specs.Refusals.{refusal_number, refusal_of}
 
--- the number of the refusal, 0 for accepted
-abbrev pub number_of : Answer → ℕ
-number_of (Accepted r) = 0
-number_of (Refused n) = n
+-- what is answered where n is the number that refuses, 0 for none: the value, or refused with n
+abbrev pub answered : {A : Type 0} → ℕ → A → Result A Refusal
+answered n x = cond (eqb n 0) (Ok x) (Err (refusal_of n))
+
+-- of an answer the number of the refusal, 0 where nothing is refused
+abbrev pub number_of : {A : Type 0} → Result A Refusal → ℕ
+number_of (Ok x) = 0
+number_of (Err r) = refusal_number r
+
+-- something is told
+abbrev pub is_told : {A : Type 0} → Result A Refusal → Bool
+is_told (Ok x) = true
+is_told (Err r) = false
+
+-- the value, and `none` where it is refused
+abbrev pub value_or : {A : Type 0} → A → Result A Refusal → A
+value_or none (Ok x) = x
+value_or none (Err r) = none
+
+-- ---- the answer to an event: accepted with the receipt of a payment, 0 for others; or refused
+abbrev pub Answer : Type 0
+Answer = Result ℕ Refusal
 
 -- the receipt that an answer carries, 0 for none
 abbrev pub receipt_of : Answer → ℕ
-receipt_of (Accepted r) = r
-receipt_of (Refused n) = 0
+receipt_of (Ok r) = r
+receipt_of (Err n) = 0

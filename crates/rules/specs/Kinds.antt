@@ -1,5 +1,8 @@
 -- The sixteen kinds of event, by document 01's numbers.
-use Rattle.std.specs.Prelude.{ℕ}
+use Rattle.std.specs.Prelude.{ℕ, ◌≡◌, Bool, false, ◌&&◌, leb, Result, MatchResult}
+use Rattle.rules.specs.declared.kinds.Kind.{Kind}
+use Rattle.rules.specs.declared.kinds.Kind.TheVariants as kind
+use Rattle.rules.specs.declared.kinds.UnknownKind.{UnknownKind}
 
 abbrev pub bill : ℕ
 bill = 1
@@ -54,3 +57,31 @@ reconnection = 15
 -- document 01: close
 abbrev pub closing : ℕ
 closing = 16
+
+-- ---- the kinds as the code names them
+-- document 01's number of a kind
+abbrev pub kind_number : Kind → ℕ
+kind_number kind.Bill = bill
+kind_number kind.Payment = payment
+kind_number kind.ReturnedPayment = returned_payment
+kind_number kind.Fee = fee
+kind_number kind.DepositAsked = deposit_asked
+kind_number kind.DepositPaid = deposit_paid
+kind_number kind.DepositMoved = deposit_moved
+kind_number kind.Payout = payout
+kind_number kind.Certificate = certificate
+kind_number kind.Approval = approval
+kind_number kind.Arrangement = arrangement
+kind_number kind.FinalNotice = final_notice
+kind_number kind.Call = call
+kind_number kind.Disconnection = disconnection
+kind_number kind.Reconnection = reconnection
+kind_number kind.Closing = closing
+
+-- a number is one of the sixteen kinds
+abbrev pub is_kind : ℕ → Bool
+is_kind n = leb bill n && leb n closing
+
+-- the kind that has the number, or the number of none
+abbrev pub Decodes : ℕ → Result Kind UnknownKind → Type 0
+Decodes n r = MatchResult r (λ k. kind_number k ≡ n) (λ e. (e.0 ≡ n) × (is_kind n ≡ false))

@@ -11,6 +11,7 @@ pub mod Medical
 pub mod Arrangement
 pub mod Range
 pub mod Table
+pub mod Refusals
 pub mod Answer
 pub mod Accepted
 pub mod Sums

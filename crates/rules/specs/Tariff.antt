@@ -1,10 +1,10 @@
 -- Bills from the reading (document 02, ticket 1): the amount for a bill, worked out from a class and its kilowatt-hours.
-use Rattle.std.specs.Prelude.{ℕ, ◌+◌, ◌*◌, ◌-◌, ◌/◌, min, Bool, cond, ◌&&◌, List, [], ◌∷◌, leb, eqb, get_or}
+use Rattle.std.specs.Prelude.{ℕ, ◌+◌, ◌*◌, ◌-◌, ◌/◌, min, Bool, cond, ◌&&◌, List, [], ◌∷◌, leb, eqb, get_or, Result}
 use Rattle.rules.specs.declared.Block.{Block}
 use Rattle.rules.specs.declared.Line.{Line}
-use Rattle.rules.specs.declared.Billed.{Billed}
-use Rattle.rules.specs.declared.Billed.TheVariants.{Cents, Refused}
+use Rattle.rules.specs.declared.refusals.Refusal.{Refusal}
 use Rattle.rules.specs.Limits.{last_class, most_usage}
+use Rattle.rules.specs.Answer.{answered}
 
 -- the basic charges in cents: class 1 residential, class 2 single phase, class 3 three phase
 abbrev pub basic_charges : List ℕ
@@ -61,8 +61,8 @@ abbrev pub bill_refusal : ℕ → ℕ → ℕ
 bill_refusal class usage = cond (is_class class && leb usage most_usage) 0 23
 
 -- the bill of a class and a usage, or refused with the number
-abbrev pub bill_of : ℕ → ℕ → Billed
-bill_of class usage = cond (eqb (bill_refusal class usage) 0) (Cents (cents_of class usage)) (Refused (bill_refusal class usage))
+abbrev pub bill_of : ℕ → ℕ → Result ℕ Refusal
+bill_of class usage = answered (bill_refusal class usage) (cents_of class usage)
 
 -- the lines of a bill, in the order of the blocks; none where it is refused
 abbrev pub bill_lines : ℕ → ℕ → List Line
@@ -71,14 +71,3 @@ bill_lines class usage = cond (eqb (bill_refusal class usage) 0) (lines_from 0 (
 -- past the last line there is none
 abbrev pub no_line : Line
 no_line = record { used = 0; price = 0 }
-
--- ---- the number and the value of such an answer, by cases
--- the number of the refusal, 0 for none
-abbrev pub bill_number : Billed → ℕ
-bill_number (Cents n) = 0
-bill_number (Refused n) = n
-
--- the cents, 0 where it is refused
-abbrev pub bill_cents : Billed → ℕ
-bill_cents (Cents n) = n
-bill_cents (Refused n) = 0

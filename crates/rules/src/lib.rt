@@ -1,14 +1,18 @@
-// The words of the rules: an event, the service, an answer, a charge, what the table of refusals looks at, and the bill of a reading.
+// The words of the rules: an event, the service, an answer, a charge, what the table of refusals looks at, and a line of a bill.
 // The rules themselves are in specs/, over lists of events alone; the table as code is the crate `table`.
 #![tactic(auto)]
 
 pub mod kinds;
 pub mod limits;
+pub mod refusals;
 
 ghost use Rattle.std.specs.Prelude.{◌≡◌};
-ghost use Rattle.rules.specs.History.{within};
+ghost use Rattle.rules.specs.History.{is, within};
 ghost use Rattle.rules.specs.Service.{is_on, is_off, is_closed};
-ghost use Rattle.rules.specs.Answer.{number_of};
+ghost use Rattle.rules.specs.Kinds.{kind_number};
+
+use kinds::Kind;
+use refusals::Refusal;
 
 // One thing that happened to an account. specs/Kinds.antt names the sixteen kinds, specs/Range.antt the fields of each.
 #[derive(Clone, Copy)]
@@ -28,19 +32,15 @@ pub struct Fields {
     pub amount_to: u64,
 }
 
-#[derive(Clone, Copy)]
+#[derive(Clone, Copy, Debug, PartialEq, Eq)]
 pub enum Service {
     On,
     Off,
     Closed,
 }
 
-// Accepted, with the receipt of a payment or 0; or refused with a number of the table.
-#[derive(Clone, Copy)]
-pub enum Answer {
-    Accepted(u64),
-    Refused(u8),
-}
+// Accepted, with the receipt of a payment or 0; or refused.
+pub type Answer = Result<u64, Refusal>;
 
 // A charge: its day, its amount, and the sum of all charges up to it (document 01: an item, a_k, C_k).
 #[derive(Clone, Copy)]
@@ -89,54 +89,33 @@ pub struct Line {
     pub price: u64,
 }
 
-// The bill of a reading: its cents, or refused with a number of the table.
-#[derive(Clone, Copy)]
-pub enum Billed {
-    Cents(u64),
-    Refused(u8),
+impl Event {
+    // Whether it is of that kind.
+    #[inline]
+    pub fn is(self, kind: Kind) -> bool
+        ensures { result ≡ is (kind_number kind) self }
+    {
+        self.kind == kind.number()
+    }
 }
 
 impl Service {
     pub fn is_on(self) -> bool
         ensures { result ≡ is_on self }
     {
-        match self {
-            Service::On => true,
-            Service::Off => false,
-            Service::Closed => false,
-        }
+        self == Service::On
     }
 
     pub fn is_off(self) -> bool
         ensures { result ≡ is_off self }
     {
-        match self {
-            Service::On => false,
-            Service::Off => true,
-            Service::Closed => false,
-        }
+        self == Service::Off
     }
 
     pub fn is_closed(self) -> bool
         ensures { result ≡ is_closed self }
     {
-        match self {
-            Service::On => false,
-            Service::Off => false,
-            Service::Closed => true,
-        }
-    }
-}
-
-impl Answer {
-    // The number of the refusal, 0 for accepted.
-    pub fn number(self) -> u8
-        ensures { result ≡ number_of self }
-    {
-        match self {
-            Answer::Accepted(_) => 0,
-            Answer::Refused(n) => n,
-        }
+        self == Service::Closed
     }
 }
 

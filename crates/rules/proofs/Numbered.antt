@@ -1,0 +1,63 @@
+-- Every number that the table gives is that of a refusal, so that an answer tells it.
+use Rattle.std.proofs.Common.{ℕ, zero, suc, ◌+◌, ◌<◌, ◌≡◌, Bool, true, cond, not, ◌&&◌, List, [], ◌∷◌, length, get_or, eqb, ltb, refl, sym, arith}
+use borrow.Author.Tests.{eqb-true, ltb-true}
+use Rattle.basics.proofs.Cases.{on, and_left, and_right}
+use Rattle.basics.specs.Lists.{every}
+use Rattle.rules.specs.declared.refusals.Refusal.{Refusal}
+use Rattle.rules.specs.declared.refusals.Refusal.TheVariants.{NoAccount}
+use Rattle.rules.specs.declared.Event.{Event}
+use Rattle.rules.specs.declared.View.{View}
+use Rattle.rules.specs.Refusals.{refusal_number, refusals, refusal_of}
+use Rattle.rules.specs.Answer.{answered, number_of, value_or, is_told}
+use Rattle.rules.specs.Limits.{final_day}
+use Rattle.rules.specs.Range.{in_range}
+use Rattle.rules.specs.Table.{Row, table, first_of, refusal_by}
+use Rattle.rules.specs.Accepted.{day_rows}
+
+-- the refusals of a list have the numbers from k on
+counted : ℕ → List Refusal → Bool
+counted k [] = true
+counted k (r ∷ rs) = eqb (refusal_number r) k && counted (k + 1) rs
+
+read : (k : ℕ) (rs : List Refusal) (n : ℕ) → n < length rs → counted k rs ≡ true → refusal_number (get_or rs n NoAccount) ≡ k + n
+unfolding counted
+read k [] n h c = absurd (omega arith)
+read k (r ∷ rs) zero h c = omega (arith, eqb-true (refusal_number r) k (and_left (eqb (refusal_number r) k) _ c))
+read k (r ∷ rs) (suc n) h c =
+    omega (arith, read (k + 1) rs n (omega arith) (and_right (eqb (refusal_number r) k) _ c))
+
+pub number_kept : (n : ℕ) → n < length refusals → refusal_number (refusal_of n) ≡ n
+unfolding counted
+number_kept n h = omega (arith, read 0 refusals n h refl)
+
+-- an answer by a number of the table tells it, and the value where it is 0
+pub number_answered : {A : Type 0} (n : ℕ) (x : A) → n < length refusals → number_of (answered n x) ≡ n
+number_answered n x h = on (eqb n 0) (λ q. rw q (sym (eqb-true n 0 q))) (λ q. rw q (number_kept n h))
+
+pub told_answered : {A : Type 0} (n : ℕ) (x : A) → is_told (answered n x) ≡ eqb n 0
+told_answered n x = on (eqb n 0) (λ q. rw q refl) (λ q. rw q refl)
+
+pub value_answered : {A : Type 0} (n : ℕ) (none x : A) → value_or none (answered n x) ≡ cond (eqb n 0) x none
+value_answered n none x = on (eqb n 0) (λ q. rw q refl) (λ q. rw q refl)
+
+-- ---- the numbers of the table
+row_in : (k : ℕ) (rs : List Row) (v : View) (e : Event) (rest : ℕ) → every (λ r. ltb r.number k) rs ≡ true → rest < k → first_of rs v e rest < k
+row_in k [] v e rest w h = h
+row_in k (r ∷ rs) v e rest w h =
+    on (r.refuses v e)
+    (λ q. rw q (ltb-true r.number k (and_left (ltb r.number k) _ w)))
+    (λ q. rw q (row_in k rs v e rest (and_right (ltb r.number k) _ w) h))
+
+pub refusal_in_table : (v : View) (e : Event) → refusal_by v e < length refusals
+unfolding refusal_by
+refusal_in_table v e = row_in 24 table v e 0 refl (omega arith)
+
+pub day_rows_in_table : (last t rest : ℕ) → rest < length refusals → day_rows last t rest < length refusals
+day_rows_in_table last t rest h =
+    on (ltb final_day t) (λ q. rw q (omega arith)) (λ q. rw q (on (ltb t last) (λ r. rw r (omega arith)) (λ r. rw r h)))
+
+-- what stands before the table, and then the table
+pub rows_in_table : (last : ℕ) (v : View) (e : Event) → day_rows last e.day (cond (not (in_range e)) 3 (refusal_by v e)) < length refusals
+rows_in_table last v e =
+    day_rows_in_table last e.day _
+    (on (in_range e) (λ q. rw q (refusal_in_table v e)) (λ q. rw q (omega arith)))
