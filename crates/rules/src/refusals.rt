@@ -1,5 +1,5 @@
 // Why something is refused: the table of document 01 by its numbers, and 23 of document 02.
-ghost use Rattle.std.specs.Prelude.{◌≡◌};
+ghost use Rattle.std.specs.Prelude.{◌≡◌, if◌then◌else◌};
 ghost use Rattle.rules.specs.Refusals.{refusal_number};
 ghost use Rattle.rules.specs.Answer.{number_of};
 
@@ -47,6 +47,14 @@ impl Refusal {
         ensures { result ≡ refusal_number self }
     {
         self as u8
+    }
+
+    // A row of the table: it refuses, or lets pass.
+    #[inline]
+    pub fn when(self, refuses: bool) -> Result<(), Refusal>
+        ensures { result ≡ (if refuses then Err self else Ok tt) }
+    {
+        if refuses { Err(self) } else { Ok(()) }
     }
 }
 

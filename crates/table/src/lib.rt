@@ -6,64 +6,66 @@ mod arms;
 
 ghost use Rattle.std.specs.Prelude.{◌≡◌, min};
 ghost use Rattle.basics.specs.Machine.{largest};
+ghost use Rattle.rules.specs.Answer.{answered};
 ghost use Rattle.rules.specs.Table.{row4 as Row4, charge_of, refusal_by};
 ghost use Rattle.table.specs.ByKind.{from_row5};
 ghost use Rattle.table.specs.Seen.{looks_at_debt};
 
-use rules::kinds::{
-    ARRANGEMENT, BILL, CALL, CLOSING, DEPOSIT_ASKED, DEPOSIT_MOVED, DEPOSIT_PAID, DISCONNECTION,
-    FEE, FINAL_NOTICE, PAYMENT, PAYOUT, RECONNECTION, RETURNED_PAYMENT,
-};
+use rules::kinds::Kind;
+use rules::refusals::Refusal;
 use rules::{Event, View};
 
 // Whether the event's kind looks at arrears, or at an arrangement in force.
+#[tactic(auto, unfolding(crate::specs::Seen::looks_at_debt))]
 pub fn looks_at_debt(e: Event) -> bool
     ensures { result ≡ looks_at_debt e }
 {
-    let k = e.kind;
-    (k == ARRANGEMENT) | (k == FINAL_NOTICE) | (k == DISCONNECTION) | (k == RECONNECTION)
+    matches!(
+        Kind::try_from(e.kind),
+        Ok(Kind::Arrangement | Kind::FinalNotice | Kind::Disconnection | Kind::Reconnection)
+    )
 }
 
 // 4: closed; not a payment, a returned payment or a payout.
 fn row4(v: View, e: Event) -> bool
     ensures { result ≡ Row4 v e }
 {
-    let k = e.kind;
-    let s = v.service;
-    s.is_closed() & !((k == PAYMENT) | (k == RETURNED_PAYMENT) | (k == PAYOUT))
+    v.service.is_closed()
+        & !(e.is(Kind::Payment) | e.is(Kind::ReturnedPayment) | e.is(Kind::Payout))
 }
 
 // 5 to 19, of which each kind has its own. A certificate, an approval and a kind that is not known have none.
-fn from_row5(v: View, e: Event, charge: u64) -> u8
+#[tactic(auto, unfolding(crate::specs::ByKind::from_row5), using(crate::proofs::Equations::passing, crate::proofs::ByKind::of_unknown))]
+fn from_row5(v: View, e: Event, charge: u64) -> Result<(), Refusal>
     requires { charge ≡ min (charge_of v e) largest }
-    ensures { result ≡ from_row5 v e }
+    ensures { result ≡ answered (from_row5 v e) tt }
 {
-    let k = e.kind;
-    match k {
-        BILL | FEE => arms::item_rows(v.open_count, v.charged, charge),
-        PAYMENT => arms::credit_rows(v.credited, e.amount),
-        RETURNED_PAYMENT => arms::returned_rows(v, charge),
-        DEPOSIT_ASKED => basics::select8(e.amount <= v.held, 7, 0),
-        DEPOSIT_PAID => arms::over_row(v.required, v.held, e.amount),
-        DEPOSIT_MOVED => arms::moved_rows(v),
-        PAYOUT => arms::over_row(v.credits, v.charged, e.amount),
-        ARRANGEMENT => basics::select8((v.arrears == 0) | v.in_force, 9, 0),
-        FINAL_NOTICE => arms::notice_rows(v, charge),
-        CALL => arms::call_row(v),
-        DISCONNECTION => arms::cut_rows(v),
-        RECONNECTION => arms::reconnection_rows(v, charge),
-        CLOSING => arms::credit_rows(v.credited, v.held),
-        _ => 0,
+    match Kind::try_from(e.kind) {
+        Ok(Kind::Bill) => arms::item_rows(v.open_count, v.charged, charge),
+        Ok(Kind::Fee) => arms::item_rows(v.open_count, v.charged, charge),
+        Ok(Kind::Payment) => arms::credit_rows(v.credited, e.amount),
+        Ok(Kind::ReturnedPayment) => arms::returned_rows(v, charge),
+        Ok(Kind::DepositAsked) => Refusal::WrongSum.when(e.amount <= v.held),
+        Ok(Kind::DepositPaid) => arms::over_row(v.required, v.held, e.amount),
+        Ok(Kind::DepositMoved) => arms::moved_rows(v),
+        Ok(Kind::Payout) => arms::over_row(v.credits, v.charged, e.amount),
+        Ok(Kind::Arrangement) => Refusal::NothingToArrange.when((v.arrears == 0) | v.in_force),
+        Ok(Kind::FinalNotice) => arms::notice_rows(v, charge),
+        Ok(Kind::Call) => arms::call_row(v),
+        Ok(Kind::Disconnection) => arms::cut_rows(v),
+        Ok(Kind::Reconnection) => arms::reconnection_rows(v, charge),
+        Ok(Kind::Closing) => arms::credit_rows(v.credited, v.held),
+        Ok(Kind::Certificate) | Ok(Kind::Approval) => Ok(()),
+        Err(_) => Ok(()),
     }
 }
 
-// The number of the first row from 4 on that refuses the event, 0 for none. `charge` is the amount of the item that it makes.
-pub fn refusal(v: View, e: Event, charge: u64) -> u8
+// Rows 4 to 19: refused by the first that refuses the event. `charge` is the amount of the item that it makes.
+#[tactic(auto, unfolding(crate::specs::ByKind::from_row5, rules::specs::Table::refusal_by))]
+pub fn check(v: View, e: Event, charge: u64) -> Result<(), Refusal>
     requires { charge ≡ min (charge_of v e) largest }
-    ensures { result ≡ refusal_by v e }
+    ensures { result ≡ answered (refusal_by v e) tt }
 {
-    if row4(v, e) {
-        return 4;
-    }
+    Refusal::Closed.when(row4(v, e))?;
     from_row5(v, e, charge)
 }
