@@ -35,7 +35,7 @@ fn end_of(wanted: bool, e: Event) -> u64
     ensures { result ≡ cond wanted (e.day + e.amount) 0 }
 {
     if wanted {
-        basics::wide(e.day) + e.amount
+        u64::from(e.day) + e.amount
     } else {
         0
     }
@@ -78,11 +78,11 @@ impl Medical {
     {
         let k = e.kind;
         let certificate = k == CERTIFICATE;
-        let certified_to = basics::greater(self.certified_to, end_of(certificate, e));
-        let approved_to = basics::greater(self.approved_to, end_of(k == APPROVAL, e));
+        let certified_to = self.certified_to.max(end_of(certificate, e));
+        let approved_to = self.approved_to.max(end_of(k == APPROVAL, e));
         Medical {
             certified_to,
-            approved_to: basics::select64(certificate, 0, approved_to),
+            approved_to: if certificate { 0 } else { approved_to },
         }
     }
 
