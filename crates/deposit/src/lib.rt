@@ -114,13 +114,11 @@ impl Deposit {
         } else {
             self.required
         };
-        let before = self.conduct;
-        let conduct = before.after(e);
         Deposit {
             held: if moves { 0 } else { held },
             required: if moves { 0 } else { asked },
             full_on: if paid { u64::from(e.day) } else { self.full_on },
-            conduct,
+            conduct: self.conduct.after(e),
         }
     }
 
@@ -128,8 +126,7 @@ impl Deposit {
     pub fn earned(self, t: u64) -> bool
         ensures { result ≡ earned_by self t }
     {
-        let conduct = self.conduct;
-        self.is_full() & (YEAR <= t.saturating_sub(self.full_on)) & conduct.quiet(t)
+        self.is_full() & (YEAR <= t.saturating_sub(self.full_on)) & self.conduct.quiet(t)
     }
 }
 
@@ -143,37 +140,34 @@ impl Part for Deposit {
     const WORDS: usize = 7;
 
     fn load(w: &[u64]) -> Deposit {
-        let conduct = Conduct {
-            first: w[FIRST],
-            second: w[SECOND],
-            third: w[THIRD],
-            cut: w[CUT],
-        };
         Deposit {
             held: w[HELD],
             required: w[REQUIRED],
             full_on: w[FULL_ON],
-            conduct,
+            conduct: Conduct {
+                first: w[FIRST],
+                second: w[SECOND],
+                third: w[THIRD],
+                cut: w[CUT],
+            },
         }
     }
 
     fn store(self, w: &mut [u64]) {
-        let conduct = self.conduct;
         w[HELD] = self.held;
         w[REQUIRED] = self.required;
         w[FULL_ON] = self.full_on;
-        w[FIRST] = conduct.first;
-        w[SECOND] = conduct.second;
-        w[THIRD] = conduct.third;
-        w[CUT] = conduct.cut;
+        w[FIRST] = self.conduct.first;
+        w[SECOND] = self.conduct.second;
+        w[THIRD] = self.conduct.third;
+        w[CUT] = self.conduct.cut;
     }
 
     fn ok(self) -> bool {
-        let conduct = self.conduct;
         (self.held <= self.required)
             & (self.required <= MOST_DEPOSIT)
             & (self.full_on <= FINAL_DAY)
-            & conduct.ok()
+            & self.conduct.ok()
     }
 }
 
