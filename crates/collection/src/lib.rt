@@ -33,7 +33,8 @@ pub const CLOSED: u64 = 2;
 // From the day after a call to the last day on which it counts.
 const CALLED_FOR: u64 = CALL_DAYS - 1;
 
-// The newest final notice, and 1 while it lives on: no disconnection used it up and no event made it lapse.
+// The newest final notice, and 1 while it lives on: no disconnection used it up and no event made it lapse. The mark and the
+// service are the words themselves: `ok` tests what they are, and the layout of memory that programs in C keep is fixed.
 #[derive(Clone, Copy)]
 pub struct Notice {
     pub day: u64,

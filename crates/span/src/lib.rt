@@ -4,7 +4,8 @@
 
 ghost use Rattle.std.specs.Prelude.{◌≡◌, ℕ, Bool, List, [], ◌∷◌, length, get_or};
 
-// What an account keeps in a span of its own: a value that is read from the words, changed, and written back.
+// What an account keeps in a span of its own: a value that is read from the words, changed, and written back. The words are lent
+// as a slice with a clause on its length: what memory is after a piece of it was lent as an array is left open by the check.
 pub trait Part: Copy {
     // how many words it has
     ghost WORDS: { ℕ };
