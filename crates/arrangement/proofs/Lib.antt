@@ -1,3 +1,2 @@
-pub mod Instalments
 pub mod Law
 pub mod Words

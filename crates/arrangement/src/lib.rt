@@ -11,11 +11,7 @@ ghost use Rattle.arrangement.specs.Arrangement.{arrangement_size, arrangement_on
 use rules::Event;
 use rules::kinds::{ARRANGEMENT, PAYMENT, RETURNED_PAYMENT};
 use rules::limits::{FINAL_DAY, LIMIT, MOST_PARTS, PART_DAYS};
-
-pub const WORDS: usize = 5;
-
-// The most parts, in a word of the account.
-const PARTS_TO: u64 = MOST_PARTS as u64;
+use span::Part;
 
 const DAY: usize = 0;
 
@@ -38,48 +34,7 @@ pub struct Arrangement {
     pub returned: u64,
 }
 
-pub fn load(w: &[u64]) -> Arrangement
-    requires { length w.now ≡ arrangement_size }
-    ensures { result ≡ arrangement_on w.now }
-{
-    Arrangement {
-        day: w[DAY],
-        parts: w[PARTS],
-        debt: w[DEBT],
-        paid: w[PAID],
-        returned: w[RETURNED],
-    }
-}
-
-// An accepted event, in place, with the arrears and the payment as `after` takes them. Of a payment, which is common, one word
-// changes; kinds that do not concern the part touch nothing.
-pub fn step(w: &mut [u64], e: Event, arrears: u64, payment: u64)
-    requires { (length w.old ≡ arrangement_size) × ArrangementFit (arrangement_on w.old) × WellFormed e × (cond (is returned_payment e) payment 0 ≤ limit) }
-    ensures { arrangement_on w.new ≡ arrangement_after (arrangement_on w.old) e arrears payment }
-{
-    if e.kind == PAYMENT {
-        let paid = w[PAID] + e.amount;
-        w[PAID] = paid;
-        return;
-    }
-    if (e.kind == RETURNED_PAYMENT) | (e.kind == ARRANGEMENT) {
-        let next = load(w).after(e, arrears, payment);
-        next.store(w);
-    }
-}
-
 impl Arrangement {
-    pub fn store(self, w: &mut [u64])
-        requires { length w.old ≡ arrangement_size }
-        ensures { arrangement_on w.new ≡ self }
-    {
-        w[DAY] = self.day;
-        w[PARTS] = self.parts;
-        w[DEBT] = self.debt;
-        w[PAID] = self.paid;
-        w[RETURNED] = self.returned;
-    }
-
     // What it becomes when the event is accepted. `arrears` are those before the event, on its day; `payment` is that of
     // the receipt which a returned payment names.
     pub fn after(self, e: Event, arrears: u64, payment: u64) -> Arrangement
@@ -90,14 +45,18 @@ impl Arrangement {
     {
         let k = e.kind;
         let anew = k == ARRANGEMENT;
-        let paid = self.paid + basics::select64(k == PAYMENT, e.amount, 0);
-        let returned = self.returned + basics::select64(k == RETURNED_PAYMENT, payment, 0);
+        let paid = self.paid + if k == PAYMENT { e.amount } else { 0 };
+        let returned = self.returned + if k == RETURNED_PAYMENT { payment } else { 0 };
         Arrangement {
-            day: basics::select64(anew, basics::wide(e.day), self.day),
-            parts: basics::select64(anew, e.option as u64, self.parts),
-            debt: basics::select64(anew, arrears, self.debt),
-            paid: basics::select64(anew, 0, paid),
-            returned: basics::select64(anew, 0, returned),
+            day: if anew { u64::from(e.day) } else { self.day },
+            parts: if anew {
+                u64::from(e.option)
+            } else {
+                self.parts
+            },
+            debt: if anew { arrears } else { self.debt },
+            paid: if anew { 0 } else { paid },
+            returned: if anew { 0 } else { returned },
         }
     }
 
@@ -109,24 +68,63 @@ impl Arrangement {
         let n = self.parts;
         if t < self.day + PART_DAYS * n {
             let q = (self.debt + (n - 1)) / n;
-            let j = basics::minus_or_zero(t, self.day) / PART_DAYS;
-            basics::lesser(self.debt, q * j) + self.returned <= self.paid
+            let j = t.saturating_sub(self.day) / PART_DAYS;
+            self.debt.min(q * j) + self.returned <= self.paid
         } else {
             false
         }
     }
+}
 
-    // The test: at most six parts, no day where there is none, and sums within the limit.
-    pub fn ok(self) -> bool
-        ensures { result ≡ arrangement_ok self }
-    {
+impl Part for Arrangement {
+    ghost WORDS = { arrangement_size };
+
+    ghost on = { arrangement_on };
+
+    ghost passes = { arrangement_ok };
+
+    const WORDS: usize = 5;
+
+    fn load(w: &[u64]) -> Arrangement {
+        Arrangement {
+            day: w[DAY],
+            parts: w[PARTS],
+            debt: w[DEBT],
+            paid: w[PAID],
+            returned: w[RETURNED],
+        }
+    }
+
+    fn store(self, w: &mut [u64]) {
+        w[DAY] = self.day;
+        w[PARTS] = self.parts;
+        w[DEBT] = self.debt;
+        w[PAID] = self.paid;
+        w[RETURNED] = self.returned;
+    }
+
+    // At most six parts, no day where there is none, and sums within the limit.
+    fn ok(self) -> bool {
         let n = self.parts;
-        if n <= PARTS_TO {
-            return (self.day <= FINAL_DAY * n)
+        n <= u64::from(MOST_PARTS)
+            && (self.day <= FINAL_DAY * n)
                 & (self.debt <= LIMIT)
                 & (self.paid <= LIMIT)
-                & (self.returned <= LIMIT);
-        }
-        false
+                & (self.returned <= LIMIT)
+    }
+}
+
+// An accepted event, in place, with the arrears and the payment as `after` takes them. Of a payment, which is common, one word
+// changes; kinds that do not concern the part touch nothing.
+pub fn step(w: &mut [u64], e: Event, arrears: u64, payment: u64)
+    requires { (length w.old ≡ arrangement_size) × ArrangementFit (arrangement_on w.old) × WellFormed e × (cond (is returned_payment e) payment 0 ≤ limit) }
+    ensures { arrangement_on w.new ≡ arrangement_after (arrangement_on w.old) e arrears payment }
+{
+    if e.kind == PAYMENT {
+        w[PAID] += e.amount;
+        return;
+    }
+    if (e.kind == RETURNED_PAYMENT) | (e.kind == ARRANGEMENT) {
+        span::change(w, |a: Arrangement| a.after(e, arrears, payment));
     }
 }

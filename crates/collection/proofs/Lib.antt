@@ -2,4 +2,3 @@ pub mod CallDays
 pub mod NewestNotice
 pub mod Law
 pub mod Words
-pub mod Windows

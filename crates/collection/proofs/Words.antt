@@ -1,17 +1,15 @@
 -- The part and its words: equal parts are equal memory, and what an event does that is none of collection's.
 use Prim.Native.Nat.{ℕ, ◌<◌}
-use mathlib.Core.Path.{◌≡◌, sym, ap}
-use mathlib.Core.Bool.{cond, ◌&&◌, and-true}
+use mathlib.Core.Path.{◌≡◌, sym}
+use mathlib.Core.Bool.{cond, and-true}
 use mathlib.Core.List.{List}
 use native.Mathlib.Omega.{arith}
-use lib.Dec.{leb, eqb}
-use lib.ListN.{length, get_or, set}
+use lib.ListN.{length}
 use borrow.Author.Tests.{ne_eqb}
 use Rattle.basics.proofs.Cases.{on}
 use Rattle.span.proofs.Law.{whole}
 use Rattle.rules.specs.declared.Event.{Event}
 use Rattle.rules.specs.Kinds.{final_notice, call, disconnection, reconnection, closing}
-use Rattle.rules.specs.Limits.{enough}
 use Rattle.collection.specs.declared.Collection.{Collection}
 use Rattle.collection.specs.Collection.{collection_after, watched, lapsed_by, collection_size, collection_on, collection_words}
 
@@ -34,12 +32,3 @@ collection_other c e n l =
       ne_eqb e.kind closing (omega arith),
       and-true,
     )
-
-module _ (w : List ℕ) (n : ℕ) where
-  -- the mark of the notice is the one word that is stored
-  pub lapsed_to : (x : ℕ) → length w ≡ collection_size → x ≡ cond (eqb (get_or w 2 0) 1 && leb enough n) 1 0
-      → collection_on (set w 2 x) ≡ lapsed_by (collection_on w) n
-  lapsed_to x l q = rw q (ap (λ v. collection_on (set v 2 (cond (eqb (get_or w 2 0) 1 && leb enough n) 1 0))) (whole collection_size w l))
-
-  pub lapsed_none : get_or w 2 0 ≡ 0 → collection_on w ≡ lapsed_by (collection_on w) n
-  lapsed_none z = rw z

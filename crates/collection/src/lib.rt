@@ -10,8 +10,7 @@ ghost use Rattle.collection.specs.Collection.{service_by, served_after, notice_a
 use rules::kinds::{CALL, CLOSING, DISCONNECTION, FINAL_NOTICE, RECONNECTION};
 use rules::limits::{CALL_DAYS, ENOUGH, FINAL_DAY, NOTICE_FROM, NOTICE_TO};
 use rules::{Event, Service};
-
-pub const WORDS: usize = 5;
+use span::Part;
 
 // The words, one after the other.
 const SERVICE: usize = 0;
@@ -34,7 +33,8 @@ pub const CLOSED: u64 = 2;
 // From the day after a call to the last day on which it counts.
 const CALLED_FOR: u64 = CALL_DAYS - 1;
 
-// The newest final notice, and 1 while it lives on: no disconnection used it up and no event made it lapse.
+// The newest final notice, and 1 while it lives on: no disconnection used it up and no event made it lapse. The mark and the
+// service are the words themselves: `ok` tests what they are, and the layout of memory that programs in C keep is fixed.
 #[derive(Clone, Copy)]
 pub struct Notice {
     pub day: u64,
@@ -56,21 +56,16 @@ pub struct Collection {
     pub calls: Calls,
 }
 
-fn select_service(c: bool, a: Service, b: Service) -> Service
-    ensures { result ≡ cond {A = ServiceT} c a b }
-{
-    if c { a } else { b }
-}
-
 // Whether t lies in the days from `day` + `from` to `day` + `to`; no sum of days is made, so that it needs no bound.
+#[tactic(auto, unfolding(rules::specs::History::within))]
 fn window(day: u64, from: u64, to: u64, t: u64) -> bool
     ensures { result ≡ within (day + from) (day + to) t }
 {
-    let passed = basics::minus_or_zero(t, day);
-    (day <= t) & (from <= passed) & (passed <= to)
+    (day <= t) & (from..=to).contains(&t.saturating_sub(day))
 }
 
 // Whether the day before `next`, if there is one, lies in t − 3 to t − 1.
+#[tactic(auto, unfolding(crate::specs::Collection::recent_by))]
 fn recent(next: u64, t: u64) -> bool
     ensures { result ≡ recent_by next t }
 {
@@ -81,9 +76,15 @@ fn service_after(service: u64, e: Event) -> u64
     ensures { result ≡ served_after service e }
 {
     let k = e.kind;
-    let closed = basics::select64(k == CLOSING, CLOSED, service);
-    let on = basics::select64(k == RECONNECTION, ON, closed);
-    basics::select64(k == DISCONNECTION, OFF, on)
+    if k == DISCONNECTION {
+        OFF
+    } else if k == RECONNECTION {
+        ON
+    } else if k == CLOSING {
+        CLOSED
+    } else {
+        service
+    }
 }
 
 impl Notice {
@@ -95,8 +96,8 @@ impl Notice {
         let notice = k == FINAL_NOTICE;
         let live = (notice | (self.live == 1)) & !(k == DISCONNECTION) & (ENOUGH <= arrears);
         Notice {
-            day: basics::select64(notice, basics::wide(e.day), self.day),
-            live: basics::select64(live, 1, 0),
+            day: if notice { u64::from(e.day) } else { self.day },
+            live: u64::from(live),
         }
     }
 
@@ -119,11 +120,15 @@ impl Calls {
     {
         let k = e.kind;
         let call = k == CALL;
-        let next = basics::wide(e.day) + 1;
-        let earlier = basics::select64(self.last == next, self.earlier, self.last);
+        let next = u64::from(e.day) + 1;
+        let earlier = if self.last == next {
+            self.earlier
+        } else {
+            self.last
+        };
         Calls {
-            last: basics::select64(call, next, self.last),
-            earlier: basics::select64(call, earlier, self.earlier),
+            last: if call { next } else { self.last },
+            earlier: if call { earlier } else { self.earlier },
         }
     }
 
@@ -134,97 +139,88 @@ impl Calls {
     }
 }
 
-pub fn load(w: &[u64]) -> Collection
-    requires { length w.now ≡ collection_size }
-    ensures { result ≡ collection_on w.now }
-{
-    let notice = Notice {
-        day: w[NOTICE_DAY],
-        live: w[NOTICE_LIVE],
-    };
-    let calls = Calls {
-        last: w[LAST_CALL],
-        earlier: w[EARLIER_CALL],
-    };
-    Collection {
-        service: w[SERVICE],
-        notice,
-        calls,
-    }
-}
-
 impl Collection {
-    pub fn store(self, w: &mut [u64])
-        requires { length w.old ≡ collection_size }
-        ensures { collection_on w.new ≡ self }
-    {
-        let n = self.notice;
-        let c = self.calls;
-        w[SERVICE] = self.service;
-        w[NOTICE_DAY] = n.day;
-        w[NOTICE_LIVE] = n.live;
-        w[LAST_CALL] = c.last;
-        w[EARLIER_CALL] = c.earlier;
-    }
-
     // What it becomes when the event is accepted; `arrears` are those after the event, on its day.
     fn after(self, e: Event, arrears: u64) -> Collection
         ensures { result ≡ collection_after self e arrears }
     {
-        let n = self.notice;
-        let c = self.calls;
-        let service = service_after(self.service, e);
-        let notice = n.after(e, arrears);
-        let calls = c.after(e);
         Collection {
-            service,
-            notice,
-            calls,
+            service: service_after(self.service, e),
+            notice: self.notice.after(e, arrears),
+            calls: self.calls.after(e),
         }
     }
 
     pub fn service(self) -> Service
         ensures { result ≡ service_by self.service }
     {
-        let not_on = select_service(self.service == OFF, Service::Off, Service::Closed);
-        select_service(self.service == ON, Service::On, not_on)
+        match self.service {
+            ON => Service::On,
+            OFF => Service::Off,
+            _ => Service::Closed,
+        }
     }
 
     // Whether a final notice is live on day t.
     pub fn notice_live(self, t: u64) -> bool
         ensures { result ≡ live_by self.notice t }
     {
-        let n = self.notice;
-        n.is_live(t)
+        self.notice.is_live(t)
     }
 
     // Whether day t is one of the days of a live notice on which a disconnection is allowed.
     pub fn notice_in_days(self, t: u64) -> bool
         ensures { result ≡ in_days_by self.notice t }
     {
-        let n = self.notice;
-        n.in_days(t)
+        self.notice.in_days(t)
     }
 
     // Whether there was a call on some day from t − 3 to t − 1.
     pub fn called(self, t: u64) -> bool
         ensures { result ≡ called_by self.calls t }
     {
-        let c = self.calls;
-        c.called(t)
+        self.calls.called(t)
+    }
+}
+
+impl Part for Collection {
+    ghost WORDS = { collection_size };
+
+    ghost on = { collection_on };
+
+    ghost passes = { collection_ok };
+
+    const WORDS: usize = 5;
+
+    fn load(w: &[u64]) -> Collection {
+        Collection {
+            service: w[SERVICE],
+            notice: Notice {
+                day: w[NOTICE_DAY],
+                live: w[NOTICE_LIVE],
+            },
+            calls: Calls {
+                last: w[LAST_CALL],
+                earlier: w[EARLIER_CALL],
+            },
+        }
     }
 
-    // The test: a service that there is, a mark of the notice that is 0 or 1, days in range, and the calls in order.
-    pub fn ok(self) -> bool
-        ensures { result ≡ collection_ok self }
-    {
-        let n = self.notice;
-        let c = self.calls;
+    fn store(self, w: &mut [u64]) {
+        w[SERVICE] = self.service;
+        w[NOTICE_DAY] = self.notice.day;
+        w[NOTICE_LIVE] = self.notice.live;
+        w[LAST_CALL] = self.calls.last;
+        w[EARLIER_CALL] = self.calls.earlier;
+    }
+
+    // A service that there is, a mark of the notice that is 0 or 1, days in range, and the calls in order.
+    fn ok(self) -> bool {
         (self.service <= CLOSED)
-            & (n.live <= 1)
-            & (n.day <= FINAL_DAY)
-            & (c.last <= FINAL_DAY + 1)
-            & (c.earlier <= c.last)
+            & (self.notice.live <= 1)
+            & (self.notice.day <= FINAL_DAY)
+            & (self.calls.last <= FINAL_DAY + 1)
+            & (self.calls.earlier <= self.calls.last)
     }
 }
 
@@ -251,17 +247,8 @@ pub fn lapse(w: &mut [u64], arrears: u64)
 {
     let live = w[NOTICE_LIVE];
     if live != 0 {
-        w[NOTICE_LIVE] = basics::select64((live == 1) & (ENOUGH <= arrears), 1, 0);
+        w[NOTICE_LIVE] = u64::from((live == 1) & (ENOUGH <= arrears));
     }
-}
-
-fn change(w: &mut [u64], e: Event, arrears: u64)
-    requires { length w.old ≡ collection_size }
-    ensures { collection_on w.new ≡ collection_after (collection_on w.old) e arrears }
-{
-    let before = load(w);
-    let c = before.after(e, arrears);
-    c.store(w);
 }
 
 // The event is accepted; `arrears` are those after it, on its day.
@@ -272,6 +259,6 @@ pub fn step(w: &mut [u64], e: Event, arrears: u64)
     if e.kind < FINAL_NOTICE {
         lapse(w, arrears);
     } else {
-        change(w, e, arrears);
+        span::change(w, |c: Collection| c.after(e, arrears));
     }
 }

@@ -2,4 +2,3 @@ pub mod Windows
 pub mod Full
 pub mod Law
 pub mod Words
-pub mod Passing

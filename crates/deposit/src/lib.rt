@@ -12,8 +12,7 @@ use rules::kinds::{
     CLOSING, DEPOSIT_ASKED, DEPOSIT_MOVED, DEPOSIT_PAID, DISCONNECTION, FINAL_NOTICE,
 };
 use rules::limits::{FINAL_DAY, MOST_DEPOSIT, YEAR};
-
-pub const WORDS: usize = 7;
+use span::Part;
 
 // The words, one after the other.
 const HELD: usize = 0;
@@ -53,10 +52,11 @@ pub struct Deposit {
 }
 
 // Whether the day before `next`, if there is one, lies in the 365 days up to t.
+#[tactic(auto, unfolding(crate::specs::Conduct::in_year_by))]
 fn in_year(next: u64, t: u64) -> bool
     ensures { result ≡ in_year_by next t }
 {
-    (1 <= next) & (basics::minus_or_zero(t, next) <= BARS_FOR)
+    (1 <= next) & (t.saturating_sub(next) <= BARS_FOR)
 }
 
 impl Conduct {
@@ -66,12 +66,12 @@ impl Conduct {
     {
         let k = e.kind;
         let notice = k == FINAL_NOTICE;
-        let next = basics::wide(e.day) + 1;
+        let next = u64::from(e.day) + 1;
         Conduct {
-            first: basics::select64(notice, next, self.first),
-            second: basics::select64(notice, self.first, self.second),
-            third: basics::select64(notice, self.second, self.third),
-            cut: basics::select64(k == DISCONNECTION, next, self.cut),
+            first: if notice { next } else { self.first },
+            second: if notice { self.first } else { self.second },
+            third: if notice { self.second } else { self.third },
+            cut: if k == DISCONNECTION { next } else { self.cut },
         }
     }
 
@@ -92,39 +92,7 @@ impl Conduct {
     }
 }
 
-pub fn load(w: &[u64]) -> Deposit
-    requires { length w.now ≡ deposit_size }
-    ensures { result ≡ deposit_on w.now }
-{
-    let conduct = Conduct {
-        first: w[FIRST],
-        second: w[SECOND],
-        third: w[THIRD],
-        cut: w[CUT],
-    };
-    Deposit {
-        held: w[HELD],
-        required: w[REQUIRED],
-        full_on: w[FULL_ON],
-        conduct,
-    }
-}
-
 impl Deposit {
-    pub fn store(self, w: &mut [u64])
-        requires { length w.old ≡ deposit_size }
-        ensures { deposit_on w.new ≡ self }
-    {
-        let conduct = self.conduct;
-        w[HELD] = self.held;
-        w[REQUIRED] = self.required;
-        w[FULL_ON] = self.full_on;
-        w[FIRST] = conduct.first;
-        w[SECOND] = conduct.second;
-        w[THIRD] = conduct.third;
-        w[CUT] = conduct.cut;
-    }
-
     fn is_full(self) -> bool
         ensures { result ≡ is_full self }
     {
@@ -140,15 +108,17 @@ impl Deposit {
         let k = e.kind;
         let moves = (k == DEPOSIT_MOVED) | (k == CLOSING);
         let paid = k == DEPOSIT_PAID;
-        let held = self.held + basics::select64(paid, e.amount, 0);
-        let asked = basics::select64(k == DEPOSIT_ASKED, e.amount, self.required);
-        let before = self.conduct;
-        let conduct = before.after(e);
+        let held = self.held + if paid { e.amount } else { 0 };
+        let asked = if k == DEPOSIT_ASKED {
+            e.amount
+        } else {
+            self.required
+        };
         Deposit {
-            held: basics::select64(moves, 0, held),
-            required: basics::select64(moves, 0, asked),
-            full_on: basics::select64(paid, basics::wide(e.day), self.full_on),
-            conduct,
+            held: if moves { 0 } else { held },
+            required: if moves { 0 } else { asked },
+            full_on: if paid { u64::from(e.day) } else { self.full_on },
+            conduct: self.conduct.after(e),
         }
     }
 
@@ -156,18 +126,48 @@ impl Deposit {
     pub fn earned(self, t: u64) -> bool
         ensures { result ≡ earned_by self t }
     {
-        let conduct = self.conduct;
-        self.is_full() & (YEAR <= basics::minus_or_zero(t, self.full_on)) & conduct.quiet(t)
+        self.is_full() & (YEAR <= t.saturating_sub(self.full_on)) & self.conduct.quiet(t)
+    }
+}
+
+impl Part for Deposit {
+    ghost WORDS = { deposit_size };
+
+    ghost on = { deposit_on };
+
+    ghost passes = { deposit_ok };
+
+    const WORDS: usize = 7;
+
+    fn load(w: &[u64]) -> Deposit {
+        Deposit {
+            held: w[HELD],
+            required: w[REQUIRED],
+            full_on: w[FULL_ON],
+            conduct: Conduct {
+                first: w[FIRST],
+                second: w[SECOND],
+                third: w[THIRD],
+                cut: w[CUT],
+            },
+        }
     }
 
-    pub fn ok(self) -> bool
-        ensures { result ≡ deposit_ok self }
-    {
-        let conduct = self.conduct;
+    fn store(self, w: &mut [u64]) {
+        w[HELD] = self.held;
+        w[REQUIRED] = self.required;
+        w[FULL_ON] = self.full_on;
+        w[FIRST] = self.conduct.first;
+        w[SECOND] = self.conduct.second;
+        w[THIRD] = self.conduct.third;
+        w[CUT] = self.conduct.cut;
+    }
+
+    fn ok(self) -> bool {
         (self.held <= self.required)
             & (self.required <= MOST_DEPOSIT)
             & (self.full_on <= FINAL_DAY)
-            & conduct.ok()
+            & self.conduct.ok()
     }
 }
 
@@ -182,17 +182,6 @@ fn concerns(e: Event) -> bool
         | (k == CLOSING)
 }
 
-fn change(w: &mut [u64], e: Event)
-    requires w_len { length w.old ≡ deposit_size }
-    requires deposit_fit { DepositFit (deposit_on w.old) }
-    requires well_formed { WellFormed e }
-    ensures { deposit_on w.new ≡ deposit_after (deposit_on w.old) e }
-{
-    let before = load(w);
-    let d = before.after(e);
-    d.store(w);
-}
-
 // The event is accepted.
 pub fn step(w: &mut [u64], e: Event)
     requires w_len { length w.old ≡ deposit_size }
@@ -201,6 +190,6 @@ pub fn step(w: &mut [u64], e: Event)
     ensures { deposit_on w.new ≡ deposit_after (deposit_on w.old) e }
 {
     if concerns(e) {
-        change(w, e);
+        span::change(w, |d: Deposit| d.after(e));
     }
 }

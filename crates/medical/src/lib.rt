@@ -9,8 +9,7 @@ ghost use Rattle.medical.specs.Medical.{medical_size, medical_on, medical_after,
 use rules::Event;
 use rules::kinds::{APPROVAL, CERTIFICATE};
 use rules::limits::{APPROVAL_DAYS, CERTIFICATE_DAYS, FINAL_DAY};
-
-pub const WORDS: usize = 2;
+use span::Part;
 
 const CERTIFIED_TO: usize = 0;
 
@@ -35,42 +34,13 @@ fn end_of(wanted: bool, e: Event) -> u64
     ensures { result ≡ cond wanted (e.day + e.amount) 0 }
 {
     if wanted {
-        basics::wide(e.day) + e.amount
+        u64::from(e.day) + e.amount
     } else {
         0
     }
 }
 
-pub fn load(w: &[u64]) -> Medical
-    requires { length w.now ≡ medical_size }
-    ensures { result ≡ medical_on w.now }
-{
-    Medical {
-        certified_to: w[CERTIFIED_TO],
-        approved_to: w[APPROVED_TO],
-    }
-}
-
-// An accepted event, in place. Kinds that do not concern the part touch nothing.
-pub fn step(w: &mut [u64], e: Event)
-    requires { (length w.old ≡ medical_size) × WellFormed e }
-    ensures { medical_on w.new ≡ medical_after (medical_on w.old) e }
-{
-    if (e.kind == CERTIFICATE) | (e.kind == APPROVAL) {
-        let next = load(w).after(e);
-        next.store(w);
-    }
-}
-
 impl Medical {
-    pub fn store(self, w: &mut [u64])
-        requires { length w.old ≡ medical_size }
-        ensures { medical_on w.new ≡ self }
-    {
-        w[CERTIFIED_TO] = self.certified_to;
-        w[APPROVED_TO] = self.approved_to;
-    }
-
     // What it becomes when the event is accepted.
     pub fn after(self, e: Event) -> Medical
         requires { WellFormed e }
@@ -78,11 +48,11 @@ impl Medical {
     {
         let k = e.kind;
         let certificate = k == CERTIFICATE;
-        let certified_to = basics::greater(self.certified_to, end_of(certificate, e));
-        let approved_to = basics::greater(self.approved_to, end_of(k == APPROVAL, e));
+        let certified_to = self.certified_to.max(end_of(certificate, e));
+        let approved_to = self.approved_to.max(end_of(k == APPROVAL, e));
         Medical {
             certified_to,
-            approved_to: basics::select64(certificate, 0, approved_to),
+            approved_to: if certificate { 0 } else { approved_to },
         }
     }
 
@@ -99,11 +69,41 @@ impl Medical {
     {
         t < self.approved_to
     }
+}
 
-    // The test: both ends are days that an event in range can set.
-    pub fn ok(self) -> bool
-        ensures { result ≡ medical_ok self }
-    {
+impl Part for Medical {
+    ghost WORDS = { medical_size };
+
+    ghost on = { medical_on };
+
+    ghost passes = { medical_ok };
+
+    const WORDS: usize = 2;
+
+    fn load(w: &[u64]) -> Medical {
+        Medical {
+            certified_to: w[CERTIFIED_TO],
+            approved_to: w[APPROVED_TO],
+        }
+    }
+
+    fn store(self, w: &mut [u64]) {
+        w[CERTIFIED_TO] = self.certified_to;
+        w[APPROVED_TO] = self.approved_to;
+    }
+
+    // Both ends are days that an event in range can set.
+    fn ok(self) -> bool {
         (self.certified_to <= LAST_CERTIFIED) & (self.approved_to <= LAST_APPROVED)
+    }
+}
+
+// An accepted event, in place. Kinds that do not concern the part touch nothing.
+pub fn step(w: &mut [u64], e: Event)
+    requires { (length w.old ≡ medical_size) × WellFormed e }
+    ensures { medical_on w.new ≡ medical_after (medical_on w.old) e }
+{
+    if (e.kind == CERTIFICATE) | (e.kind == APPROVAL) {
+        span::change(w, |m: Medical| m.after(e));
     }
 }

@@ -15,6 +15,7 @@ use rules::limits::{KNOWN_RECEIPTS, LIMIT};
 
 pub const WORDS: usize = 33;
 
+// The count and the ring lie in one slice: programs in C keep the account's memory, so its layout is fixed.
 // how many payments were accepted
 const COUNT: usize = 0;
 
@@ -38,14 +39,14 @@ pub fn count(w: &[u64]) -> u64
 }
 
 // The payment of a receipt that is known and was not returned, 0 of any other.
+#[tactic(auto, unfolding(rules::specs::History::within))]
 pub fn payment(w: &[u64], receipt: u64) -> u64
     requires { length w.now ≡ receipts_size }
     ensures { result ≡ payment_by (receipts_on w.now) receipt }
 {
     let n = w[COUNT];
-    let at = place(receipt);
-    let known = rules::within(1, n, receipt) & (basics::minus_or_zero(n, receipt) < KNOWN_RECEIPTS);
-    basics::select64(known, w[at], 0)
+    let known = (1..=n).contains(&receipt) & (n.saturating_sub(receipt) < KNOWN_RECEIPTS);
+    if known { w[place(receipt)] } else { 0 }
 }
 
 // The payment that a returned payment names, 0 of any other event.
@@ -54,9 +55,10 @@ pub fn named(w: &[u64], e: Event) -> u64
     ensures { result ≡ cond (is returned_payment e) (payment_by (receipts_on w.now) e.amount) 0 }
 {
     if e.kind == RETURNED_PAYMENT {
-        return payment(w, e.amount);
+        payment(w, e.amount)
+    } else {
+        0
     }
-    0
 }
 
 // The test: no more payments than the limit has cents.
@@ -75,13 +77,9 @@ pub fn step(w: &mut [u64], e: Event)
 {
     if e.kind == PAYMENT {
         let n = w[COUNT] + 1;
-        let at = place(n);
         w[COUNT] = n;
-        w[at] = e.amount;
-        return;
-    }
-    if e.kind == RETURNED_PAYMENT {
-        let at = place(e.amount);
-        w[at] = 0;
+        w[place(n)] = e.amount;
+    } else if e.kind == RETURNED_PAYMENT {
+        w[place(e.amount)] = 0;
     }
 }

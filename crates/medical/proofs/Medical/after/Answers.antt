@@ -10,6 +10,3 @@ end_of-requires c = λ q. (ranged certificate c.args.e c.requires.fields_fit (eq
 pub end_of-requires-2 : goal.end_of-requires-2
 end_of-requires-2 c = λ q. let a =
     (ranged approval c.args.e c.requires.fields_fit (eqb-true _ _ q)).amount_high in omega arith
-
-pub returns : goal.returns
-returns c = cc

@@ -1,4 +1,0 @@
-use Rattle.collection.proofs.Calls.called.Goals as goal
-
-pub returns : goal.returns
-returns c = cc
