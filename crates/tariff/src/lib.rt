@@ -66,6 +66,7 @@ fn line(row: [Block; BLOCKS], usage: u64, i: usize) -> Line
 }
 
 // The energy sum of a usage by a row of blocks, in hundredths of a cent: line after line, its kilowatt-hours at its price.
+#[tactic(auto, using(crate::proofs::Rows::lines_length, crate::proofs::Rows::length_of, std::proofs::lemmas::Grind::common_steps))]
 fn energy(row: [Block; BLOCKS], usage: u64) -> u64
     requires { energy_by row usage ≤ largest }
     ensures { result ≡ energy_by row usage }
@@ -90,6 +91,7 @@ fn refusal(class: u8, usage: u64) -> u8
 }
 
 // The cents of a class and a usage that are not refused: the basic charge, and the energy sum in whole cents, half a cent up.
+#[tactic(auto, unfolding(rules::specs::Tariff::cents_of))]
 fn cents(class: u8, usage: u64) -> u64
     requires { Allowed class usage }
     ensures { result ≡ cents_of class usage }
