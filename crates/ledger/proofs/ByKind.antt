@@ -1,8 +1,7 @@
 -- The step by kind, as code makes it in place: an event charges, or credits, or pays out, or leaves the ledger as it is.
-use Prim.Native.Nat.{ℕ, ◌+◌, ◌≤◌}
+use Prim.Native.Nat.{ℕ}
 use mathlib.Core.Path.{◌≡◌, sym, ap, ◌∙◌}
 use mathlib.Core.Bool.{Bool, true, false, ◌||◌, true≢false}
-use native.Mathlib.Omega.{arith}
 use borrow.Author.Tests.{eqb-true, eq-eqb, ne_eqb}
 use Rattle.basics.proofs.Cases.{on_eq}
 use Rattle.rules.specs.declared.Event.{Event}
@@ -10,9 +9,8 @@ use Rattle.rules.specs.Kinds.{bill, payment, returned_payment, fee, payout, fina
 use Rattle.rules.specs.History.{is, amount_if}
 use Rattle.rules.specs.Deposit.{moves}
 use Rattle.rules.specs.Money.{charges, credit_by}
-use Rattle.rules.specs.Limits.{limit}
 use Rattle.rules.proofs.Sums.{no_credit}
-use Rattle.ledger.specs.Ledger.{Ledger, entered_in, credited_in, paid_from, settled, ledger_after, LedgerFit, OneThing, LedgerRoom}
+use Rattle.ledger.specs.Ledger.{Ledger, entered_in, credited_in, paid_from, settled, ledger_after, LedgerFit, OneThing}
 use Rattle.ledger.proofs.Kept.{charge_step, credit_step, payout_step, no_step}
 
 -- what charges neither credits nor pays out
@@ -40,11 +38,6 @@ one_thing held e =
 -- ---- what the step comes to
 no_payout : (e : Event) → (e.kind ≡ payout → ⊥) → amount_if payout e ≡ 0
 no_payout e n = rw (ne_eqb e.kind payout n)
-
-pub payout_within : (l : Ledger) (e : Event) (adds : Bool) (c k : ℕ) → LedgerRoom l e adds c k → e.kind ≡ payout → l.paid_out + e.amount ≤ limit
-payout_within l e adds c k r z =
-    let b : amount_if payout e ≡ e.amount = rw (eq-eqb e.kind payout z) in
-    omega (arith, r.paid_room, r.credited_room)
 
 module _ (l : Ledger) (e : Event) (adds : Bool) (c k : ℕ) (o : OneThing e adds k) where
   pub on_charge : adds ≡ true → ledger_after l e adds c k ≡ settled (entered_in l e.day c)

@@ -1,18 +1,16 @@
 -- One turn of a loop over the open items: what is left from item k on, of the m that were made. Nothing is asked of the words.
 use Prim.Native.Nat.{ℕ, zero, suc, ◌+◌, ◌-◌, ◌≤◌, ◌<◌, min}
 use mathlib.Core.Path.{◌≡◌, refl, sym, ◌∙◌}
-use mathlib.Core.Bool.{cond, ◌&&◌}
+use mathlib.Core.Bool.{cond}
 use mathlib.Core.List.{List, [], ◌∷◌, map}
 use native.Mathlib.Omega.{arith}
-use lib.Dec.{leb, eqb}
+use lib.Dec.{eqb}
 use lib.ListN.{get_or, length-map, get_or-eq_default}
-use borrow.Author.Tests.{lt-ltb, le-ltb, le-leb, lt-leb, ne_eqb}
+use borrow.Author.Tests.{lt-ltb, le-ltb, ne_eqb}
 use Rattle.basics.specs.Machine.{largest}
-use Rattle.basics.proofs.Cases.{on_le}
-use Rattle.rules.specs.Limits.{grace}
 use Rattle.rules.specs.declared.Item.{Item}
-use Rattle.rules.specs.Money.{sum_of, due}
-use Rattle.ledger.specs.Ring.{day_at, upto_at, item_at, items_from, closed_from, below_from}
+use Rattle.rules.specs.Money.{sum_of}
+use Rattle.ledger.specs.Ring.{upto_at, item_at, items_from, closed_from, below_from}
 use Rattle.ledger.specs.Ledger.{Ledger, credits_by, shown_item, open_by, no_item, sum_before}
 use Rattle.ledger.proofs.Ring.{many}
 
@@ -44,15 +42,6 @@ module _ (m k p b : ℕ) (s : List ℕ) where
       (rw y (rw (q, z)), rw y (rw (q, z)))
 
 -- ---- arrears
--- day + 20 ≤ t, where the sum need not fit
-pub late : (d t : ℕ) → (leb grace t && leb d (t - grace)) ≡ leb (d + grace) t
-late d t =
-    on_le (d + grace) t
-    (λ q l. rw (q, le-leb grace t (omega arith), le-leb d (t - grace) (omega arith)))
-    (λ q l. on_le grace t
-    (λ r m. rw (q, r, lt-leb d (t - grace) (omega arith)))
-    (λ r m. rw (q, r)))
-
 -- a sum that stops at the largest number, part by part
 stops : (n x r : ℕ) → min (min (n + x) largest + r) largest ≡ min (n + (x + r)) largest
 stops n x r = omega arith
@@ -69,11 +58,6 @@ pub sum_done : (f : Item → ℕ) (m k b c t : ℕ) (s : List ℕ) → m ≤ k �
 sum_done f m k b c t s h l q =
     let z : min (c + 0) largest ≡ t = rw (done m k 0 b s h).2 at q in
     omega arith
-
--- an item read word by word
-pub due_is : (p t x d a u k b : ℕ) (s : List ℕ) → x ≡ due p t (record { day = d; amount = a; upto = u }) → d ≡ day_at s k → a ≡ u - b → u ≡ upto_at s k
-    → x ≡ due p t (item_at s k b)
-due_is p t x d a u k b s e f h g = e ∙ rw (f, h, g)
 
 -- ---- item i of n from item k on
 -- the sum before it

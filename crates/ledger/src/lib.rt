@@ -6,7 +6,7 @@
 
 ghost use Rattle.std.specs.Prelude.{◌≡◌, cond, ◌+◌, ◌-◌, ◌≤◌, ◌<◌, min, length, get_or};
 ghost use Rattle.std.proofs.Math.IntN.{sub_ℕ};
-ghost use Rattle.rules.specs.Money.{due as due_of};
+ghost use Rattle.rules.specs.Money.{unpaid as unpaid_of, due as due_of};
 ghost use Rattle.rules.specs.Limits.{limit};
 ghost use Rattle.ledger.specs.Ring.{day_in, day_at, upto_at};
 ghost use Rattle.ledger.specs.Ledger.{ledger_size, ledger_on, credits_by, sums_of, arrears_by, open_by, no_item, sum_before, entered_in, credited_in, paid_from, settled, ledger_after, Settled, is_settled, head_ok, ledger_ok, LedgerFit, LedgerRoom};
@@ -46,6 +46,13 @@ pub struct Sums {
     pub open_count: u64,
 }
 
+// What is kept of an item: its day, and the sum of all charges up to it.
+#[derive(Clone, Copy)]
+struct Entry {
+    day: u64,
+    upto: u64,
+}
+
 // An open item as it is shown: its day and its unpaid part.
 #[derive(Clone, Copy)]
 pub struct OpenItem {
@@ -61,20 +68,38 @@ fn place(k: u64) -> usize
     RING + 2 * ((k % MOST_OPEN) as usize)
 }
 
-fn day_of(w: &[u64], k: u64) -> u64
-    requires { length w.now ≡ ledger_size }
-    ensures { result ≡ day_at (ledger_on w.now).ring k }
-{
-    let at = place(k);
-    w[at]
-}
+impl Entry {
+    // That of item k.
+    fn at(w: &[u64], k: u64) -> Entry
+        requires { length w.now ≡ ledger_size }
+        ensures day { result.day ≡ day_at (ledger_on w.now).ring k }
+        ensures upto { result.upto ≡ upto_at (ledger_on w.now).ring k }
+    {
+        let at = place(k);
+        Entry {
+            day: w[at],
+            upto: w[at + 1],
+        }
+    }
 
-fn upto_of(w: &[u64], k: u64) -> u64
-    requires { length w.now ≡ ledger_size }
-    ensures { result ≡ upto_at (ledger_on w.now).ring k }
-{
-    let at = place(k) + 1;
-    w[at]
+    // The unpaid part of the item, where those before it come to below and credits to p.
+    fn unpaid(self, below: u64, p: u64) -> u64
+        ensures { result ≡ unpaid_of p (record { day = self.day; amount = self.upto - below; upto = self.upto }) }
+    {
+        let amount = self.upto.saturating_sub(below);
+        amount.min(self.upto.saturating_sub(p))
+    }
+
+    // The same where the item is delinquent on day t, else 0. Its day may be any word, so the sum of days is not made.
+    fn due(self, below: u64, p: u64, t: u64) -> u64
+        ensures { result ≡ due_of p t (record { day = self.day; amount = self.upto - below; upto = self.upto }) }
+    {
+        if GRACE <= t && self.day <= t - GRACE {
+            self.unpaid(below, p)
+        } else {
+            0
+        }
+    }
 }
 
 // Payments plus deposits moved, less payouts (document 01: P).
@@ -82,7 +107,7 @@ fn credits(w: &[u64]) -> u64
     requires { length w.now ≡ ledger_size }
     ensures { result ≡ credits_by (ledger_on w.now) }
 {
-    basics::minus_or_zero(w[CREDITED], w[PAID_OUT])
+    w[CREDITED].saturating_sub(w[PAID_OUT])
 }
 
 // ---- settling
@@ -93,29 +118,28 @@ struct Mark {
     below: u64,
 }
 
+#[tactic(auto, using(crate::proofs::Turns::stop, crate::proofs::Turns::pass))]
 fn first_open(w: &[u64]) -> Mark
     requires { length w.now ≡ ledger_size }
     ensures { Settled (ledger_on w.now) result.closed result.below }
 {
     let p = credits(w);
     let made = w[MADE];
-    let mut k = w[CLOSED];
-    let mut paid = w[BELOW];
-    while k < made {
-        let upto = upto_of(w, k);
+    let mut mark = Mark {
+        closed: w[CLOSED],
+        below: w[BELOW],
+    };
+    for k in w[CLOSED]..made {
+        let upto = Entry::at(w, k).upto;
         if p < upto {
-            return Mark {
-                closed: k,
-                below: paid,
-            };
+            return mark;
         }
-        paid = upto;
-        k += 1;
+        mark = Mark {
+            closed: k + 1,
+            below: upto,
+        };
     }
-    Mark {
-        closed: k,
-        below: paid,
-    }
+    mark
 }
 
 fn settle(w: &mut [u64])
@@ -173,6 +197,7 @@ fn pay_out(w: &mut [u64], amount: u64)
 
 // The step of an accepted event, which charges so much where it adds an item, and credits so much. It does one thing at most, and an
 // event that does none touches no word.
+#[tactic(auto, using(crate::proofs::ByKind::on_charge, crate::proofs::ByKind::on_credit, crate::proofs::ByKind::on_payout, crate::proofs::ByKind::on_other))]
 pub fn step(w: &mut [u64], e: Event, adds: bool, charge: u64, credit: u64)
     requires w_len { length w.old ≡ ledger_size }
     requires ledger_fit { LedgerFit (ledger_on w.old) }
@@ -180,7 +205,7 @@ pub fn step(w: &mut [u64], e: Event, adds: bool, charge: u64, credit: u64)
     ensures { ledger_on w.new ≡ ledger_after (ledger_on w.old) e adds charge credit }
 {
     if adds {
-        charge_item(w, basics::wide(e.day), charge);
+        charge_item(w, u64::from(e.day), charge);
         return;
     }
     if e.kind == PAYOUT {
@@ -201,7 +226,7 @@ pub fn sums_of(w: &[u64]) -> Sums
         charged: w[CHARGED],
         credited: w[CREDITED],
         credits: credits(w),
-        open_count: basics::minus_or_zero(w[MADE], w[CLOSED]),
+        open_count: w[MADE].saturating_sub(w[CLOSED]),
     }
 }
 
@@ -214,37 +239,20 @@ pub fn owed(w: &[u64]) -> i64
     basics::difference(w[CHARGED], credits(w))
 }
 
-// The unpaid part of an item of that amount and sum, where credits come to p.
-fn unpaid(amount: u64, upto: u64, p: u64) -> u64
-    ensures { result ≡ min amount (upto - p) }
-{
-    basics::lesser(amount, basics::minus_or_zero(upto, p))
-}
-
-// The same where the item is delinquent on day t, else 0. Its day may be any word, so the sum of days is not made.
-fn due(day: u64, amount: u64, upto: u64, p: u64, t: u64) -> u64
-    ensures { result ≡ due_of p t (record { day = day; amount = amount; upto = upto }) }
-{
-    let late = (GRACE <= t) & (day <= basics::minus_or_zero(t, GRACE));
-    basics::select64(late, unpaid(amount, upto, p), 0)
-}
-
 // The arrears on day t.
+#[tactic(auto, using(crate::proofs::Turns::sum_turn, crate::proofs::Turns::sum_done))]
 pub fn arrears(w: &[u64], t: u64) -> u64
     requires { length w.now ≡ ledger_size }
     ensures { result ≡ arrears_by (ledger_on w.now) t }
 {
     let p = credits(w);
     let made = w[MADE];
-    let mut k = w[CLOSED];
     let mut below = w[BELOW];
     let mut sum: u64 = 0;
-    while k < made {
-        let upto = upto_of(w, k);
-        let item = due(day_of(w, k), basics::minus_or_zero(upto, below), upto, p, t);
-        sum = basics::plus(sum, item);
-        below = upto;
-        k += 1;
+    for k in w[CLOSED]..made {
+        let e = Entry::at(w, k);
+        sum = sum.saturating_add(e.due(below, p, t));
+        below = e.upto;
     }
     sum
 }
@@ -268,7 +276,7 @@ fn sum_before(w: &[u64], i: u64) -> u64
     if i == 0 {
         return w[BELOW];
     }
-    upto_of(w, w[CLOSED] + i - 1)
+    Entry::at(w, w[CLOSED] + i - 1).upto
 }
 
 // Open item i, from 0 in the order posted; an item of 0 past the last.
@@ -277,15 +285,14 @@ pub fn open_item(w: &[u64], i: u64) -> OpenItem
     ensures { result ≡ get_or (open_by (ledger_on w.now)) i no_item }
 {
     let closed = w[CLOSED];
-    if basics::minus_or_zero(w[MADE], closed) <= i {
+    if w[MADE].saturating_sub(closed) <= i {
         return OpenItem { day: 0, unpaid: 0 };
     }
-    let day = day_of(w, closed + i);
-    let upto = upto_of(w, closed + i);
+    let e = Entry::at(w, closed + i);
     let before = sum_before(w, i);
     OpenItem {
-        day,
-        unpaid: unpaid(basics::minus_or_zero(upto, before), upto, credits(w)),
+        day: e.day,
+        unpaid: e.unpaid(before, credits(w)),
     }
 }
 
@@ -296,7 +303,7 @@ fn is_settled(w: &[u64]) -> bool
     ensures { result ≡ is_settled (ledger_on w.now) }
 {
     let closed = w[CLOSED];
-    (w[MADE] <= closed) | (credits(w) < upto_of(w, closed))
+    (w[MADE] <= closed) | (credits(w) < Entry::at(w, closed).upto)
 }
 
 fn head_ok(w: &[u64]) -> bool
@@ -312,7 +319,7 @@ fn head_ok(w: &[u64]) -> bool
         & (w[PAID_OUT] <= credited)
         & (made <= charged)
         & (closed <= made)
-        & (basics::minus_or_zero(made, closed) <= MOST_OPEN)
+        & (made.saturating_sub(closed) <= MOST_OPEN)
 }
 
 // The test: sums within the limit, payouts within the credits, at most 64 items open and the first of them not paid.

@@ -1,3 +1,2 @@
 pub mod Rows
 pub mod Law
-pub mod Answers

@@ -4,59 +4,24 @@ use mathlib.Core.Path.{◌≡◌, refl, ap, sym, ◌∙◌}
 use mathlib.Core.Bool.{Bool, true, ◌&&◌}
 use mathlib.Core.List.{List, [], ◌∷◌, map}
 use native.Mathlib.Nat.{mul-add, mul-le-mul_right, not-suc-le-zero, le_of_suc-le-suc}
-use native.Mathlib.Numerals.{add-one}
 use native.Mathlib.Omega.{arith}
 use lib.Dec.{leb, ltb}
-use lib.ListN.{length, get_or, drop, length-map}
-use lib.Seq.{drop-cons}
+use lib.ListN.{length, get_or, length-map}
 use borrow.Author.Tests.{leb-true, ltb-true}
 use Rattle.basics.proofs.Cases.{links}
 use Rattle.rules.specs.declared.Block.{Block}
 use Rattle.rules.specs.declared.Line.{Line}
 use Rattle.rules.specs.Limits.{most_usage}
 use Rattle.rules.specs.Tariff.{limit_of, price_of, lines_from, energy_of, no_line}
-use Rattle.tariff.specs.Blocks.{start_of}
-
-abbrev pub zero_block : Block
-zero_block = record { 0 = 0; 1 = 0 }
 
 -- a list is as long as its image: for an array of structs, `search (rules, length_of)`
 pub length_of : (A B : Type 0) (f : A → B) (l : List A) (n : ℕ) → length (map f l) ≡ n → length l ≡ n
 length_of A B f l n e = sym (length-map l f) ∙ e
 
--- ---- the line of one block
-start_next : (row : List Block) (i : ℕ) → i < length row → start_of row (suc i) ≡ limit_of (get_or row i zero_block)
-start_next [] i l = absurd (not-suc-le-zero l)
-start_next (b ∷ row) zero l = refl
-start_next (b ∷ row) (suc i) l = start_next row i (le_of_suc-le-suc l)
-
--- a block other than the first begins at the limit of the one before it
-pub start_at : (row : List Block) (i : ℕ) → 0 < i → i ≤ length row → start_of row i ≡ limit_of (get_or row (i - 1) zero_block)
-start_at row zero h l = absurd (not-suc-le-zero h)
-start_at row (suc i) h l = let z : suc i - 1 ≡ i = omega arith in start_next row i l ∙ rw z
-
-line_from : (from : ℕ) (row : List Block) (usage i : ℕ) → i < length row
-    → get_or (lines_from from row usage) i no_line
-    ≡ record { used = min usage (limit_of (get_or row i zero_block)) - get_or (from ∷ map limit_of row) i 0; price = price_of (get_or row i zero_block) }
-line_from from [] usage i l = absurd (not-suc-le-zero l)
-line_from from (b ∷ row) usage zero l = refl
-line_from from (b ∷ row) usage (suc i) l = line_from (limit_of b) row usage i (le_of_suc-le-suc l)
-
--- line i: from where its block begins up to its limit
-pub line_at : (row : List Block) (usage i : ℕ) → i < length row
-    → get_or (lines_from 0 row usage) i no_line
-    ≡ record { used = min usage (limit_of (get_or row i zero_block)) - start_of row i; price = price_of (get_or row i zero_block) }
-line_at row usage i l = line_from 0 row usage i l
-
 -- a line for each block
 pub lines_length : (from : ℕ) (row : List Block) (usage : ℕ) → length (lines_from from row usage) ≡ length row
 lines_length from [] usage = refl
 lines_length from (b ∷ row) usage = ap suc (lines_length (limit_of b) row usage)
-
--- ---- the walk: the sum, with that of the lines that are left, is still the whole
-pub turn : (lines : List Line) (sum i whole : ℕ) → i < length lines → sum + energy_of (drop i lines) ≡ whole
-    → sum + (get_or lines i no_line).price * (get_or lines i no_line).used + energy_of (drop (i + 1) lines) ≡ whole
-turn lines sum i whole l w = rw add-one (omega (arith, rw (drop-cons lines i no_line l) at w))
 
 -- ---- growth
 -- a row that grows with every kilowatt-hour: the limits rise up to the most usage, each price is at least 100

@@ -50,11 +50,7 @@ fn start(row: [Block; BLOCKS], i: usize) -> u64
     requires { i < 3 }
     ensures { result ≡ start_of row i }
 {
-    if i == 0 {
-        return 0;
-    }
-    let before = row[i - 1];
-    before.0
+    if i == 0 { 0 } else { row[i - 1].0 }
 }
 
 // The line of block i: what of the usage lies in it, at its price.
@@ -62,25 +58,23 @@ fn line(row: [Block; BLOCKS], usage: u64, i: usize) -> Line
     requires { i < 3 }
     ensures { result ≡ get_or (lines_from 0 row usage) i no_line }
 {
-    let b = row[i];
-    let upto = basics::lesser(usage, b.0);
+    let Block(limit, price) = row[i];
     Line {
-        used: basics::minus_or_zero(upto, start(row, i)),
-        price: b.1,
+        used: usage.min(limit).saturating_sub(start(row, i)),
+        price,
     }
 }
 
 // The energy sum of a usage by a row of blocks, in hundredths of a cent: line after line, its kilowatt-hours at its price.
+#[tactic(auto, using(crate::proofs::Rows::lines_length, crate::proofs::Rows::length_of, std::proofs::lemmas::Grind::common_steps))]
 fn energy(row: [Block; BLOCKS], usage: u64) -> u64
     requires { energy_by row usage ≤ largest }
     ensures { result ≡ energy_by row usage }
 {
     let mut sum: u64 = 0;
-    let mut i: usize = 0;
-    while i < BLOCKS {
+    for i in 0..BLOCKS {
         let l = line(row, usage, i);
         sum += l.price * l.used;
-        i += 1;
     }
     sum
 }
@@ -89,14 +83,15 @@ fn energy(row: [Block; BLOCKS], usage: u64) -> u64
 fn refusal(class: u8, usage: u64) -> u8
     ensures { result ≡ bill_refusal class usage }
 {
-    basics::select8(
-        (1 <= class) & (class <= LAST_CLASS) & (usage <= MOST_USAGE),
-        0,
-        REFUSED,
-    )
+    if (1..=LAST_CLASS).contains(&class) && usage <= MOST_USAGE {
+        0
+    } else {
+        REFUSED
+    }
 }
 
 // The cents of a class and a usage that are not refused: the basic charge, and the energy sum in whole cents, half a cent up.
+#[tactic(auto, unfolding(rules::specs::Tariff::cents_of))]
 fn cents(class: u8, usage: u64) -> u64
     requires { Allowed class usage }
     ensures { result ≡ cents_of class usage }

@@ -1,4 +1,4 @@
-use Prim.Native.Nat.{◌+◌, ◌-◌, ◌≤◌}
+use Prim.Native.Nat.{◌+◌}
 use mathlib.Core.Path.{◌≡◌}
 use lib.ListN.{drop}
 use Rattle.rules.specs.Tariff.{lines_from, energy_of, energy_by}
@@ -6,7 +6,4 @@ use Rattle.tariff.proofs.energy.Given as goal
 
 -- the sum, with that of the lines that are left, is the whole
 abbrev pub invariant-loop-i : goal.invariant-loop-i
-invariant-loop-i l = (l.i ≤ 3) × (l.sum + energy_of (drop l.i (lines_from 0 l.row l.usage)) ≡ energy_by l.row l.usage)
-
-abbrev pub decreases-loop-i : goal.decreases-loop-i
-decreases-loop-i l = 3 - l.i
+invariant-loop-i l = l.sum + energy_of (drop l.i (lines_from 0 l.row l.usage)) ≡ energy_by l.row l.usage
