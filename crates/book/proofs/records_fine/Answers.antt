@@ -1,24 +1,12 @@
-use Prim.Native.Nat.{suc, ◌-◌}
+use Prim.Native.Nat.{suc, ◌+◌, ◌*◌, ◌-◌}
 use mathlib.Core.Path.{◌≡◌, sym, ◌∙◌}
 use native.Mathlib.Omega.{arith}
-use Rattle.bookformat.proofs.Tests.{and_on, and_off}
+use Rattle.bookformat.proofs.Tests.{and_on}
 use Rattle.book.proofs.records_fine.Goals as goal
 
-pub returns-then-not-record_fine : goal.returns-then-not-record_fine
-returns-then-not-record_fine c =
-    let l = c.loop-left in
-    let e : l.left ≡ suc (l.left - 1) = omega arith in
-    let t = sym c.record_fine.ensures ∙ c.if-not-record_fine.true in
-    sym (and_off _ _ t) ∙ (rw e at l.invariant.0)
-
-pub loop-left-preserved : goal.loop-left-preserved
-loop-left-preserved c =
-    let l = c.loop-left in
-    let e : l.left ≡ suc (l.left - 1) = omega arith in
-    let t = sym c.record_fine.ensures ∙ c.if-not-record_fine.false in
-    (sym (and_on _ _ t) ∙ (rw e at l.invariant.0), omega arith)
-
-pub returns : goal.returns
-returns c =
-    let e : c.loop-left.left ≡ 0 = omega arith in
-    rw e at c.loop-left.invariant.0
+pub loop-i-preserved : goal.loop-i-preserved
+loop-i-preserved c =
+    let l = c.loop-i in
+    let e : c.args.n - l.i ≡ suc (c.args.n - (l.i + 1)) = omega arith in
+    let q : c.args.p + 16 * (l.i + 1) ≡ c.args.p + 16 * l.i + 16 = omega arith in
+    rw q (sym (and_on _ _ (sym c.record_fine.ensures ∙ c.if-not-record_fine.false)) ∙ (rw e at l.invariant))
