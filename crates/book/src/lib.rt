@@ -25,12 +25,7 @@ fn records_fine(b: &[u8], p: usize, n: usize) -> bool
     requires { p + 16 * n ≤ length b.now }
     ensures { result ≡ records_fine n p b.now }
 {
-    for i in 0..n {
-        if !record_fine(b, p + RECORD * i) {
-            return false;
-        }
-    }
-    true
+    (0..n).all(|i| record_fine(b, p + RECORD * i))
 }
 
 // The table of a accounts: offsets without gaps, counts that sum to r. The sum of 1,024 counts can't wrap.
