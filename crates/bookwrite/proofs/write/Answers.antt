@@ -17,13 +17,14 @@ put_book-requires c = write_facts _ _ _ _ _ _ (sym c.write_refusal-n.ensures ∙
 pub returns : goal.returns
 returns c =
     let s = c.args in
+    let l = s.list in
     let e = sym c.write_refusal-n.ensures ∙ c.if-n-ne0.false in
     record {
       wrote_book = record {
         answer = sym e;
         bytes = c.put_book.ensures
-            ∙ wrote_all s.counts.now s.kinds.now s.options.now s.days.now s.amounts.now s.out.now (write_facts _ _ _ _ _ _ e)
-            ∙ sym (ap (λ n. after n (encode (lent_list s.counts.now s.kinds.now s.options.now s.days.now s.amounts.now)) s.out.now) e);
+            ∙ wrote_all l.counts.now l.kinds.now l.options.now l.days.now l.amounts.now s.out.now (write_facts _ _ _ _ _ _ e)
+            ∙ sym (ap (λ n. after n (encode (lent_list l.counts.now l.kinds.now l.options.now l.days.now l.amounts.now)) s.out.now) e);
       };
       outcome = refl;
     }
