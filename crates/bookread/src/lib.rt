@@ -83,6 +83,7 @@ fn take_book(
 }
 
 // Reads the account list of a book, or answers 20, 21 or 22 and leaves all memory lent as it was.
+// Five slices: of a struct that lends them a contract tells what is left only by places in nested pairs, which is no plainer.
 pub fn read(
     b: &[u8],
     counts: &mut [u32],
