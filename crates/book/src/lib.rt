@@ -1,11 +1,14 @@
 // Books in lent bytes: tested in one pass, and one record or account at a time found without a copy.
 #![tactic(auto)]
 
-ghost use Rattle.std.specs.Prelude.{◌≡◌, ◌+◌, ◌*◌, ◌≤◌, length};
+ghost use Rattle.std.specs.Prelude.{◌≡◌, ◌+◌, ◌*◌, ◌<◌, ◌≤◌, length};
 ghost use Rattle.bookformat.specs.Book.{most_accounts, base, record_fine, records_fine, table_fine, header_fine, book_refusal};
 ghost use Rattle.bookformat.specs.Finding.{entries, whole_records, record_at, record_of, span_at, IsAccount};
 
-use bookformat::{LONGEST, MOST_ACCOUNTS, Span, event_at, kind_fine};
+use bookformat::{
+    HEADER, LONGEST, MOST_ACCOUNTS, RECORD, Span, accounts, base, event_at, kind_fine, records,
+    size,
+};
 use little::get;
 use rules::Event;
 
@@ -14,10 +17,7 @@ fn record_fine(b: &[u8], p: usize) -> bool
     requires { p + 16 ≤ length b.now }
     ensures { result ≡ record_fine p b.now }
 {
-    let fine = kind_fine(b[p]);
-    let spare = b[p + 2];
-    let spare2 = b[p + 3];
-    fine & ((spare == 0) & (spare2 == 0))
+    kind_fine(b[p]) && b[p + 2] == 0 && b[p + 3] == 0
 }
 
 // The n records from byte p on, in their order.
@@ -25,57 +25,36 @@ fn records_fine(b: &[u8], p: usize, n: usize) -> bool
     requires { p + 16 * n ≤ length b.now }
     ensures { result ≡ records_fine n p b.now }
 {
-    let mut left = n;
-    let mut at = p;
-    while 0 < left {
-        if !record_fine(b, at) {
-            return false;
-        }
-        at += 16;
-        left -= 1;
-    }
-    true
+    (0..n).all(|i| record_fine(b, p + RECORD * i))
 }
 
 // The table of a accounts: offsets without gaps, counts that sum to r. The sum of 1,024 counts can't wrap.
-fn table_fine(b: &[u8], a: usize, r: u64) -> bool
+fn table_fine(b: &[u8], a: usize, r: usize) -> bool
     requires { (base a ≤ length b.now) × (a ≤ most_accounts) }
     ensures { result ≡ table_fine (base a) r a 8 0 b.now }
 {
-    let start = 8 + 8 * (a as u64);
-    let mut left = a;
-    let mut at = 8;
-    let mut sum: u64 = 0;
-    while 0 < left {
-        if get(b, at, 4) != start + 16 * sum {
+    let start = base(a);
+    let mut sum = 0;
+    for i in 0..a {
+        let at = base(i);
+        if get::<4>(b, at) as usize != start + RECORD * sum {
             return false;
         }
-        sum += get(b, at + 4, 4);
-        at += 8;
-        left -= 1;
+        sum += get::<4>(b, at + 4) as usize;
     }
     sum == r
 }
 
-// The length and the header. Both counts are below 2^32, so the products of the length can't wrap.
+// The length and the header.
 fn header_fine(b: &[u8]) -> bool
     ensures { result ≡ header_fine b.now }
 {
-    if b.len() < 8 {
+    if b.len() < HEADER || LONGEST < b.len() {
         return false;
     }
-    if LONGEST < b.len() as u64 {
-        return false;
-    }
-    let a = get(b, 0, 4);
-    let r = get(b, 4, 4);
-    if MOST_ACCOUNTS < a {
-        return false;
-    }
-    if b.len() as u64 != 8 + 8 * a + 16 * r {
-        return false;
-    }
-    table_fine(b, a as usize, r)
+    let a = accounts(b);
+    let r = records(b);
+    a <= MOST_ACCOUNTS && b.len() == size(a, r) && table_fine(b, a, r)
 }
 
 // The test of a book. Length and header first, then the records in order: 0, or the number of the refusal.
@@ -85,31 +64,33 @@ pub fn book_refusal(b: &[u8]) -> u8
     if !header_fine(b) {
         return 20;
     }
-    let a = get(b, 0, 4) as usize;
-    let r = get(b, 4, 4) as usize;
-    if records_fine(b, 8 + 8 * a, r) { 0 } else { 21 }
+    let start = base(accounts(b));
+    if records_fine(b, start, records(b)) {
+        0
+    } else {
+        21
+    }
 }
 
 // How many accounts the table has, 0 where it is not whole.
-fn entries(b: &[u8]) -> u64
-    ensures { result ≡ entries b.now }
+fn entries(b: &[u8]) -> usize
+    ensures { (result ≡ entries b.now) × (result < 4294967296) }
 {
-    if b.len() < 8 {
+    if b.len() < HEADER {
         return 0;
     }
-    let a = get(b, 0, 4);
-    if (b.len() as u64) < 8 + 8 * a { 0 } else { a }
+    let a = accounts(b);
+    if b.len() < base(a) { 0 } else { a }
 }
 
 // How many whole records lie behind the table, 0 where it is not whole.
-fn room(b: &[u8]) -> u64
+fn room(b: &[u8]) -> usize
     ensures { result ≡ whole_records b.now }
 {
-    if b.len() < 8 {
+    if b.len() < HEADER {
         return 0;
     }
-    let a = get(b, 0, 4);
-    basics::minus_or_zero(b.len() as u64, 8 + 8 * a) / 16
+    b.len().saturating_sub(base(accounts(b))) / RECORD
 }
 
 // Record k, counted over all accounts; a record of kind 0 past the end. Of a book that is refused, what lies there.
@@ -117,7 +98,7 @@ pub fn record(b: &[u8], k: usize) -> Event
     ensures value { result ≡ record_at b.now k }
     ensures in_book { book_refusal b.now ≡ 0 → result ≡ record_of b.now k }
 {
-    if room(b) <= k as u64 {
+    if room(b) <= k {
         return Event {
             kind: 0,
             option: 0,
@@ -125,8 +106,7 @@ pub fn record(b: &[u8], k: usize) -> Event
             amount: 0,
         };
     }
-    let a = get(b, 0, 4) as usize;
-    event_at(b, 8 + 8 * a + 16 * k)
+    event_at(b, base(accounts(b)) + RECORD * k)
 }
 
 // Where the records of account i are; no records past the end. Of a book that is refused, what its table says.
@@ -134,15 +114,14 @@ pub fn account(b: &[u8], i: usize) -> Span
     ensures value { result ≡ span_at b.now i }
     ensures in_book { book_refusal b.now ≡ 0 → IsAccount b.now i result }
 {
-    if entries(b) <= i as u64 {
+    if entries(b) <= i {
         return Span { first: 0, count: 0 };
     }
-    let a = get(b, 0, 4);
-    let offset = get(b, 8 + 8 * i, 4);
-    let count = get(b, 8 + 8 * i + 4, 4) as usize;
-    let first = basics::minus_or_zero(offset, 8 + 8 * a) / 16;
+    let at = base(i);
+    let offset = get::<4>(b, at) as usize;
+    let count = get::<4>(b, at + 4) as usize;
     Span {
-        first: first as usize,
-        count: count,
+        first: offset.saturating_sub(base(accounts(b))) / RECORD,
+        count,
     }
 }

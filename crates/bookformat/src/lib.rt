@@ -2,19 +2,26 @@
 // the words of the answers and one record; the code for whole books is in `book`, `bookread` and `bookwrite`.
 #![tactic(auto)]
 
-ghost use Rattle.std.specs.Prelude.{◌≡◌, ◌+◌, ◌≤◌, length};
-ghost use Rattle.bookformat.specs.Book.{kind_fine, event_at};
+ghost use Rattle.std.specs.Prelude.{◌≡◌, ◌+◌, ◌<◌, ◌≤◌, length};
+ghost use Rattle.bookformat.specs.Book.{accounts, records, base, size, kind_fine, event_at};
 ghost use Rattle.bookformat.specs.Answers.{outcome_number};
 
-use little::{get4, get8};
+use little::get;
 use rules::Event;
 use rules::kinds::{BILL, CLOSING};
 
 // A book has at most so many accounts ..
-pub const MOST_ACCOUNTS: u64 = 1024;
+pub const MOST_ACCOUNTS: usize = 1024;
 
 // .. and so many bytes.
-pub const LONGEST: u64 = 4_294_967_295;
+pub const LONGEST: usize = 4_294_967_295;
+
+// So many bytes have the header, the entry of an account in the table, and a record.
+pub const HEADER: usize = 8;
+
+pub const ENTRY: usize = 8;
+
+pub const RECORD: usize = 16;
 
 // How reading or writing a book ends: done, or stopped with the number of the refusal, 20, 21 or 22.
 #[derive(Clone, Copy)]
@@ -42,6 +49,38 @@ impl Outcome {
     }
 }
 
+// How many accounts the header tells of ..
+pub fn accounts(b: &[u8]) -> usize
+    requires { 8 ≤ length b.now }
+    ensures { (result ≡ accounts b.now) × (result < 4294967296) }
+{
+    get::<4>(b, 0) as usize
+}
+
+// .. and how many records.
+pub fn records(b: &[u8]) -> usize
+    requires { 8 ≤ length b.now }
+    ensures { (result ≡ records b.now) × (result < 4294967296) }
+{
+    get::<4>(b, 4) as usize
+}
+
+// Where the records begin behind the table of so many accounts.
+pub fn base(accounts: usize) -> usize
+    requires { accounts < 4294967296 }
+    ensures { result ≡ base accounts }
+{
+    HEADER + ENTRY * accounts
+}
+
+// How long a book of so many accounts and records is.
+pub fn size(accounts: usize, records: usize) -> usize
+    requires { (accounts < 4294967296) × (records < 4294967296) }
+    ensures { result ≡ size accounts records }
+{
+    base(accounts) + RECORD * records
+}
+
 // One of the sixteen kinds.
 pub fn kind_fine(k: u8) -> bool
     ensures { result ≡ kind_fine k }
@@ -57,7 +96,7 @@ pub fn event_at(b: &[u8], p: usize) -> Event
     Event {
         kind: b[p],
         option: b[p + 1],
-        day: get4(b, p + 4) as u32,
-        amount: get8(b, p + 8),
+        day: get::<4>(b, p + 4) as u32,
+        amount: get::<8>(b, p + 8),
     }
 }

@@ -4,13 +4,13 @@
 
 ghost use Rattle.std.specs.Prelude.{◌≡◌, ◌+◌, ◌*◌, ◌≤◌, length};
 ghost use Rattle.std.proofs.lemmas.List.Edits.{sets};
-ghost use Rattle.bookformat.specs.Book.{base, events_at, counts_at, decode};
+ghost use Rattle.bookformat.specs.Book.{most_accounts, base, events_at, counts_at, decode};
 ghost use Rattle.bookformat.specs.Lent.{kinds_of, options_of, days_of, amounts_of, read_refusal, Left, Gave};
 ghost use Rattle.bookformat.specs.Facts.{Fits};
 ghost use Rattle.bookformat.specs.Answers.{outcome_number, outcome_of};
 
 use book::book_refusal;
-use bookformat::{Outcome, event_at};
+use bookformat::{Outcome, RECORD, accounts, base, event_at, records};
 use little::get;
 
 // 0, or the number of the refusal, for memory of these lengths.
@@ -21,9 +21,9 @@ fn read_refusal(b: &[u8], lc: usize, lk: usize, lo: usize, ld: usize, lm: usize)
     if n != 0 {
         return n;
     }
-    let a = get(b, 0, 4) as usize;
-    let r = get(b, 4, 4) as usize;
-    if (a <= lc) & ((r <= lk) & ((r <= lo) & ((r <= ld) & (r <= lm)))) {
+    let a = accounts(b);
+    let r = records(b);
+    if a <= lc && r <= lk && r <= lo && r <= ld && r <= lm {
         0
     } else {
         22
@@ -32,17 +32,11 @@ fn read_refusal(b: &[u8], lc: usize, lk: usize, lo: usize, ld: usize, lm: usize)
 
 // The counts of the first n accounts.
 fn take_counts(b: &[u8], n: usize, counts: &mut [u32])
-    requires { (base n ≤ length b.now) × (n ≤ length counts.old) }
+    requires { (base n ≤ length b.now) × (n ≤ most_accounts) × (n ≤ length counts.old) }
     ensures { counts.new ≡ sets counts.old 0 (counts_at n 8 b.now) }
 {
-    let mut left = n;
-    let mut at = 8;
-    let mut i = 0;
-    while 0 < left {
-        counts[i] = get(b, at + 4, 4) as u32;
-        at += 8;
-        i += 1;
-        left -= 1;
+    for i in 0..n {
+        counts[i] = get::<4>(b, base(i) + 4) as u32;
     }
 }
 
@@ -62,18 +56,12 @@ fn take_records(
     ensures days_after { days.new ≡ sets days.old 0 (days_of (events_at n p b.now)) }
     ensures amounts_after { amounts.new ≡ sets amounts.old 0 (amounts_of (events_at n p b.now)) }
 {
-    let mut left = n;
-    let mut at = p;
-    let mut i = 0;
-    while 0 < left {
-        let e = event_at(b, at);
+    for i in 0..n {
+        let e = event_at(b, p + RECORD * i);
         kinds[i] = e.kind;
         options[i] = e.option;
         days[i] = e.day;
         amounts[i] = e.amount;
-        at += 16;
-        i += 1;
-        left -= 1;
     }
 }
 
@@ -89,13 +77,13 @@ fn take_book(
     requires { Fits b.now (length counts.old) (length kinds.old) (length options.old) (length days.old) (length amounts.old) }
     ensures { Left 0 (decode b.now) counts.old kinds.old options.old days.old amounts.old counts.new kinds.new options.new days.new amounts.new }
 {
-    let a = get(b, 0, 4) as usize;
-    let r = get(b, 4, 4) as usize;
+    let a = accounts(b);
     take_counts(b, a, counts);
-    take_records(b, 8 + 8 * a, r, kinds, options, days, amounts);
+    take_records(b, base(a), records(b), kinds, options, days, amounts);
 }
 
 // Reads the account list of a book, or answers 20, 21 or 22 and leaves all memory lent as it was.
+// Five slices: of a struct that lends them a contract tells what is left only by places in nested pairs, which is no plainer.
 pub fn read(
     b: &[u8],
     counts: &mut [u32],

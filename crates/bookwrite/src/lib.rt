@@ -1,5 +1,4 @@
-// Books written from lent memory: how many records each account has in counts, the records of all accounts, one after
-// another, in a slice for each field. All is tested before the first byte is stored; then one pass stores the book.
+// Books written from lent memory. All is tested before the first byte is stored; then one pass stores the book.
 #![tactic(auto)]
 
 ghost use Rattle.std.specs.Prelude.{◌≡◌, [], ◌∷◌, ◌++◌, ◌+◌, ◌*◌, ◌<◌, ◌≤◌, length};
@@ -10,14 +9,19 @@ ghost use Rattle.bookformat.specs.Lent.{lent, counts_total, sizes_fine, kinds_fi
 ghost use Rattle.bookformat.specs.Facts.{WriteRoom};
 ghost use Rattle.bookformat.specs.Answers.{outcome_number, outcome_of};
 
-use bookformat::{LONGEST, MOST_ACCOUNTS, Outcome, kind_fine};
+use bookformat::{LONGEST, MOST_ACCOUNTS, Outcome, RECORD, base, kind_fine, size};
 use little::put;
 use rules::Event;
 
-fn wide32(x: u32) -> u64
-    ensures { (result ≡ x) × (result < 4294967296) }
-{
-    x as u64
+// An account list in lent memory: how many records each account has in counts, the records of all accounts, one after
+// another, in a slice for each field.
+#[derive(Clone, Copy)]
+pub struct LentList<'a> {
+    pub counts: &'a [u32],
+    pub kinds: &'a [u8],
+    pub options: &'a [u8],
+    pub days: &'a [u32],
+    pub amounts: &'a [u64],
 }
 
 // The sum of at most 1,024 counts, which can't wrap.
@@ -25,78 +29,53 @@ fn sum(counts: &[u32]) -> u64
     requires { length counts.now ≤ most_accounts }
     ensures { result ≡ counts_total counts.now }
 {
-    let mut s: u64 = 0;
-    let mut i = 0;
-    while i < counts.len() {
-        s += wide32(counts[i]);
-        i += 1;
-    }
-    s
+    counts.iter().map(|n| u64::from(*n)).sum()
 }
 
 fn kinds_fine(kinds: &[u8]) -> bool
     ensures { result ≡ kinds_fine (length kinds.now) 0 kinds.now }
 {
-    let mut left = kinds.len();
-    let mut i = 0;
-    while 0 < left {
-        if !kind_fine(kinds[i]) {
-            return false;
-        }
-        i += 1;
-        left -= 1;
-    }
-    true
+    kinds.iter().all(|k| kind_fine(*k))
 }
 
-// The counts and lengths. More than 268,435,455 records are too many for any book, so the length of the book can't wrap.
-fn sizes_fine(counts: &[u32], kinds: &[u8], options: &[u8], days: &[u32], amounts: &[u64]) -> bool
-    ensures { result ≡ sizes_fine counts.now kinds.now options.now days.now amounts.now }
+// The counts and lengths. More records than a book has bytes are too many, so the length of the book can't wrap.
+fn sizes_fine(list: LentList) -> bool
+    ensures { let l = list.entry in result ≡ sizes_fine l.counts.now l.kinds.now l.options.now l.days.now l.amounts.now }
 {
-    if MOST_ACCOUNTS < counts.len() as u64 {
+    let n = list.kinds.len();
+    if MOST_ACCOUNTS < list.counts.len() || LONGEST < n {
         return false;
     }
-    let n = kinds.len();
-    if 268_435_455 < n {
-        return false;
-    }
-    if LONGEST < (8 + 8 * counts.len() + 16 * n) as u64 {
-        return false;
-    }
-    let s = sum(counts);
-    (s == n as u64) & ((options.len() == n) & ((days.len() == n) & (amounts.len() == n)))
+    size(list.counts.len(), n) <= LONGEST
+        && sum(list.counts) == n as u64
+        && list.options.len() == n
+        && list.days.len() == n
+        && list.amounts.len() == n
 }
 
 // 0, or the number of the refusal, for output of room bytes.
-fn write_refusal(
-    counts: &[u32],
-    kinds: &[u8],
-    options: &[u8],
-    days: &[u32],
-    amounts: &[u64],
-    room: usize,
-) -> u8
-    ensures { result ≡ write_refusal counts.now kinds.now options.now days.now amounts.now room }
+fn write_refusal(list: LentList, room: usize) -> u8
+    ensures { let l = list.entry in result ≡ write_refusal l.counts.now l.kinds.now l.options.now l.days.now l.amounts.now room }
 {
-    if !sizes_fine(counts, kinds, options, days, amounts) {
+    if !sizes_fine(list) {
         return 20;
     }
-    if !kinds_fine(kinds) {
+    if !kinds_fine(list.kinds) {
         return 21;
     }
-    if room < 8 + 8 * counts.len() + 16 * kinds.len() {
+    if room < size(list.counts.len(), list.kinds.len()) {
         return 22;
     }
     0
 }
 
 // Two numbers of 4 bytes: the header, or an entry of the table.
-fn put_entry(out: &mut [u8], p: usize, first: u64, n: u64)
+fn put_entry(out: &mut [u8], p: usize, first: usize, n: usize)
     requires { p + 8 ≤ length out.old }
     ensures { out.new ≡ sets out.old p (le 4 first ++ le 4 n) }
 {
-    put(out, p, 4, first);
-    put(out, p + 4, 4, n);
+    put::<4>(out, p, first as u64);
+    put::<4>(out, p + 4, n as u64);
 }
 
 // The table of the counts, from byte 8 on.
@@ -104,15 +83,11 @@ fn put_table(counts: &[u32], out: &mut [u8])
     requires { (length counts.now ≤ most_accounts) × (base (length counts.now) ≤ length out.old) }
     ensures { out.new ≡ sets out.old 8 (account_table (base (length counts.now)) counts.now) }
 {
-    let mut first = 8 + 8 * (counts.len() as u64);
-    let mut at = 8;
-    let mut i = 0;
-    while i < counts.len() {
-        let n = wide32(counts[i]);
-        put_entry(out, at, first, n);
-        first += 16 * n;
-        at += 8;
-        i += 1;
+    let mut first = base(counts.len());
+    for (i, count) in counts.iter().enumerate() {
+        let n = *count as usize;
+        put_entry(out, base(i), first, n);
+        first += RECORD * n;
     }
 }
 
@@ -121,10 +96,7 @@ fn put_marks(out: &mut [u8], p: usize, kind: u8, option: u8)
     requires { p + 4 ≤ length out.old }
     ensures { out.new ≡ sets out.old p (kind ∷ option ∷ 0 ∷ 0 ∷ []) }
 {
-    out[p] = kind;
-    out[p + 1] = option;
-    out[p + 2] = 0;
-    out[p + 3] = 0;
+    out[p..p + 4].copy_from_slice(&[kind, option, 0, 0]);
 }
 
 fn put_record(out: &mut [u8], p: usize, e: Event)
@@ -132,72 +104,45 @@ fn put_record(out: &mut [u8], p: usize, e: Event)
     ensures { out.new ≡ sets out.old p (record_bytes e) }
 {
     put_marks(out, p, e.kind, e.option);
-    put(out, p + 4, 4, wide32(e.day));
-    put(out, p + 8, 8, e.amount);
+    put::<4>(out, p + 4, u64::from(e.day));
+    put::<8>(out, p + 8, e.amount);
 }
 
 // Every record, from byte p on.
-fn put_records(
-    kinds: &[u8],
-    options: &[u8],
-    days: &[u32],
-    amounts: &[u64],
-    out: &mut [u8],
-    p: usize,
-)
-    requires { (length options.now ≡ length kinds.now) × (length days.now ≡ length kinds.now) × (length amounts.now ≡ length kinds.now) × (p + 16 * length kinds.now ≤ length out.old) }
-    ensures { out.new ≡ sets out.old p (body (lent (length kinds.now) 0 kinds.now options.now days.now amounts.now)) }
+fn put_records(list: LentList, out: &mut [u8], p: usize)
+    requires { (length list.options.now ≡ length list.kinds.now) × (length list.days.now ≡ length list.kinds.now) × (length list.amounts.now ≡ length list.kinds.now) × (p + 16 * length list.kinds.now ≤ length out.old) }
+    ensures { let l = list.entry in out.new ≡ sets out.old p (body (lent (length l.kinds.now) 0 l.kinds.now l.options.now l.days.now l.amounts.now)) }
 {
-    let mut left = kinds.len();
-    let mut at = p;
-    let mut i = 0;
-    while 0 < left {
+    for (i, kind) in list.kinds.iter().enumerate() {
         let e = Event {
-            kind: kinds[i],
-            option: options[i],
-            day: days[i],
-            amount: amounts[i],
+            kind: *kind,
+            option: list.options[i],
+            day: list.days[i],
+            amount: list.amounts[i],
         };
-        put_record(out, at, e);
-        at += 16;
-        i += 1;
-        left -= 1;
+        put_record(out, p + RECORD * i, e);
     }
 }
 
 // The book of a list that passed, into output that is long enough.
-fn put_book(
-    counts: &[u32],
-    kinds: &[u8],
-    options: &[u8],
-    days: &[u32],
-    amounts: &[u64],
-    out: &mut [u8],
-)
-    requires { WriteRoom counts.now kinds.now options.now days.now amounts.now (length out.old) }
-    ensures { out.new ≡ sets out.old 0 (book_of counts.now (lent (length kinds.now) 0 kinds.now options.now days.now amounts.now)) }
+fn put_book(list: LentList, out: &mut [u8])
+    requires { WriteRoom list.counts.now list.kinds.now list.options.now list.days.now list.amounts.now (length out.old) }
+    ensures { let l = list.entry in out.new ≡ sets out.old 0 (book_of l.counts.now (lent (length l.kinds.now) 0 l.kinds.now l.options.now l.days.now l.amounts.now)) }
 {
-    put_entry(out, 0, counts.len() as u64, kinds.len() as u64);
-    put_table(counts, out);
-    put_records(kinds, options, days, amounts, out, 8 + 8 * counts.len());
+    put_entry(out, 0, list.counts.len(), list.kinds.len());
+    put_table(list.counts, out);
+    put_records(list, out, base(list.counts.len()));
 }
 
 // Writes the book of the account list lent, or answers 20, 21 or 22 and leaves the output as it was.
-pub fn write(
-    counts: &[u32],
-    kinds: &[u8],
-    options: &[u8],
-    days: &[u32],
-    amounts: &[u64],
-    out: &mut [u8],
-) -> Outcome
-    ensures wrote_book { WroteBook counts.now kinds.now options.now days.now amounts.now out.old out.new (outcome_number result) }
+pub fn write(list: LentList, out: &mut [u8]) -> Outcome
+    ensures wrote_book { let l = list.entry in WroteBook l.counts.now l.kinds.now l.options.now l.days.now l.amounts.now out.old out.new (outcome_number result) }
     ensures outcome { result ≡ outcome_of (outcome_number result) }
 {
-    let n = write_refusal(counts, kinds, options, days, amounts, out.len());
+    let n = write_refusal(list, out.len());
     if n != 0 {
         return Outcome::Stopped(n);
     }
-    put_book(counts, kinds, options, days, amounts, out);
+    put_book(list, out);
     Outcome::Done
 }

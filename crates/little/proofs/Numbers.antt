@@ -30,11 +30,6 @@ le_un (b ∷ l) h =
     let d : (b + 256 * un l) / 256 ≡ un l = omega arith in
     rw (m, d, le_un l (λ i. h (suc i)))
 
-pub un_lt : (l : List ℕ) → Bytes l → un l < top (length l)
-unfolding un
-un_lt [] h = omega arith
-un_lt (b ∷ l) h = let s : b < 256 = h 0 in omega (arith, un_lt l (λ i. h (suc i)))
-
 pub bytes_take : (n : ℕ) (l : List ℕ) → Bytes l → Bytes (take n l)
 bytes_take zero l h i = omega arith
 bytes_take (suc n) [] h i = omega arith
@@ -53,39 +48,15 @@ module _ (w p : ℕ) (b : List ℕ) (h : p + w ≤ length b) (t : Bytes b) where
   unfolding num
   le_num = ap (λ k. le k (num w p b)) (sym (length_part w p b h)) ∙ le_un (part w p b) (bytes_part w p b t)
 
-  pub num_lt : num w p b < top w
-  unfolding num
-  num_lt = rw (length_part w p b h) at (un_lt (part w p b) (bytes_part w p b t))
-
 -- the number at p where its bytes were put
 pub num_at : (w n p : ℕ) (x z : List ℕ) → length x ≡ p → n < top w → num w p (x ++ (le w n ++ z)) ≡ n
 unfolding num
 num_at w n p x z e h = rw (drop_at x (le w n ++ z) p e, take_at (le w n) z w (length_le w n)) (un_le w n h)
 
-pub num_zero : (p : ℕ) (b : List ℕ) → num 0 p b ≡ 0
-unfolding num un
-num_zero p b = refl
-
 -- one byte more at the low end: what a turn of the reading loop adds
 pub num_step : (w p : ℕ) (b : List ℕ) → p < length b → num (suc w) p b ≡ get_or b p 0 + 256 * num w (p + 1) b
 unfolding num un
 num_step w p b h = rw (drop-cons b p 0, add-one)
-
--- four bytes more at the low end: what the readers without a loop add
-pub num_four : (w p : ℕ) (b : List ℕ) → p + 4 ≤ length b →
-    num (suc (suc (suc (suc w)))) p b
-    ≡ get_or b p 0 + 256 * (get_or b (p + 1) 0 + 256 * (get_or b (p + 2) 0 + 256 * (get_or b (p + 3) 0 + 256 * num w (p + 4) b)))
-num_four w p b h =
-    let two : p + 1 + 1 ≡ p + 2 = omega arith in
-    let three : p + 2 + 1 ≡ p + 3 = omega arith in
-    let four : p + 3 + 1 ≡ p + 4 = omega arith in
-    omega (
-      arith,
-      num_step (suc (suc (suc w))) p b (omega arith),
-      num_step (suc (suc w)) (p + 1) b (omega arith) ∙ ap (λ i. get_or b (p + 1) 0 + 256 * num (suc (suc w)) i b) two,
-      num_step (suc w) (p + 2) b (omega arith) ∙ ap (λ i. get_or b (p + 2) 0 + 256 * num (suc w) i b) three,
-      num_step w (p + 3) b (omega arith) ∙ ap (λ i. get_or b (p + 3) 0 + 256 * num w i b) four,
-    )
 
 pub top_mono : (i j : ℕ) → i ≤ j → top i ≤ top j
 top_mono zero zero h = omega arith

@@ -1,23 +1,17 @@
-use mathlib.Core.Path.{◌≡◌, ap, ◌∙◌}
-use Prim.Native.Nat.{◌+◌, ◌*◌}
-use native.Mathlib.Omega.{arith}
-use borrow.Author.Tests.{le-ltb, lt-ltb}
-use Rattle.bookformat.specs.Book.{base, accounts, event_at}
-use Rattle.bookformat.specs.Finding.{whole_records}
-use Rattle.bookformat.proofs.Found.{record_told}
+use mathlib.Core.Path.{◌≡◌, ◌∙◌}
+use borrow.Author.Rules.{rules}
+use Rattle.bookformat.specs.Finding.{record_at}
+use Rattle.bookformat.proofs.Found.{record_of_lem}
 use Rattle.book.proofs.record.Goals as goal
 
 pub returns-then-room-k : goal.returns-then-room-k
 returns-then-room-k c =
     let s = c.args in
-    let t = record_told s.b.now s.k (record { kind = 0; option = 0; day = 0; amount = 0 }) (rw (le-ltb s.k (whole_records s.b.now) (omega arith))) in
-    record { value = t.0; in_book = t.1 }
+    let e : record { kind = 0; option = 0; day = 0; amount = 0 } ≡ record_at s.b.now s.k = search rules in
+    record { value = e; in_book = λ z. e ∙ record_of_lem s.b.now s.k z }
 
 pub returns : goal.returns
 returns c =
     let s = c.args in
-    let p : 8 + 8 * c.get-a.result + 16 * s.k ≡ base (accounts s.b.now) + 16 * s.k = omega arith in
-    let t =
-    record_told s.b.now s.k c.event_at.result
-    (rw (lt-ltb s.k (whole_records s.b.now) (omega arith)) (c.event_at.ensures ∙ ap (λ q. event_at q s.b.now) p)) in
-    record { value = t.0; in_book = t.1 }
+    let e : c.event_at.result ≡ record_at s.b.now s.k = search rules in
+    record { value = e; in_book = λ z. e ∙ record_of_lem s.b.now s.k z }

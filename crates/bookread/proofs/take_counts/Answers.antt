@@ -1,17 +1,16 @@
-use Prim.Native.Nat.{suc, ◌-◌}
+use Prim.Native.Nat.{suc, ◌+◌, ◌-◌}
 use mathlib.Core.Path.{◌≡◌}
 use native.Mathlib.Omega.{arith}
 use native.Mathlib.Numerals.{add-one}
-use borrow.Author.Rules.{rules}
+use Rattle.little.specs.Little.{num}
+use Rattle.bookformat.specs.Book.{base}
 use Rattle.bookread.proofs.take_counts.Goals as goal
 
-pub loop-left-preserved : goal.loop-left-preserved
-loop-left-preserved c =
-    let l = c.loop-left in
-    let e : l.left ≡ suc (l.left - 1) = omega arith in
-    (rw (add-one, c.get.ensures.0) (rw e at l.invariant.0), omega arith, omega arith, search rules)
-
-pub returns : goal.returns
-returns c =
-    let e : c.loop-left.left ≡ 0 = omega arith in
-    rw e at c.loop-left.invariant.0
+pub loop-i-preserved : goal.loop-i-preserved
+loop-i-preserved c =
+    let i = c.loop-i.i in
+    let e : c.args.n - i ≡ suc (c.args.n - suc i) = omega arith in
+    let q : base (i + 1) ≡ base i + 8 = omega arith in
+    let at : c.base.result ≡ base i = c.base.ensures in
+    let count : c.get.result ≡ num 4 (base i + 4) c.args.b.now = rw at at c.get.ensures.0 in
+    rw (q, count, add-one) (rw e at c.loop-i.invariant)

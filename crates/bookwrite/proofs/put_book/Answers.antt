@@ -15,17 +15,18 @@ use Rattle.bookwrite.proofs.put_book.Goals as goal
 pub returns : goal.returns
 returns c =
     let s = c.args in
-    let cs = s.counts.now in
-    let n = length s.kinds.now in
-    let es = lent n 0 s.kinds.now s.options.now s.days.now s.amounts.now in
+    let l = s.list in
+    let cs = l.counts.now in
+    let n = length l.kinds.now in
+    let es = lent n 0 l.kinds.now l.options.now l.days.now l.amounts.now in
     let t = account_table (base (length cs)) cs in
     let head = le 4 (length cs) ++ le 4 n in
     let o1 = c.put_entry.new.out in
     let o2 = c.put_table.new.out in
     let q : base (length cs) ≡ 8 + length t = omega (arith, length_table cs (base (length cs))) in
     let r : 8 ≡ 0 + length head = simp (length-append, length_le) in
-    rw (length_lent n 0 s.kinds.now s.options.now s.days.now s.amounts.now)
-    (c.put_records.ensures
+    rw (length_lent n 0 l.kinds.now l.options.now l.days.now l.amounts.now)
+    (rw c.base.ensures at c.put_records.ensures
     ∙ sets_then t (body es) o1 o2 8 (base (length cs)) c.put_table.ensures q
     ∙ sets_then head (t ++ body es) s.out.now o1 0 8
     c.put_entry.ensures r

@@ -1,16 +1,13 @@
+use Prim.Native.Nat.{◌+◌, ◌-◌}
+use mathlib.Core.Path.{◌≡◌, sym}
+use mathlib.Core.List.{[], ◌∷◌, append_assoc}
 use native.Mathlib.Omega.{arith}
-use native.Mathlib.Numerals.{towards_suc}
-use lib.ListN.{length-set}
+use lib.Seq.{sets-eq, drop-drop}
 use Rattle.bookwrite.proofs.put_marks.Goals as goal
 
-pub bounds-out-p-2 : goal.bounds-out-p-2
-bounds-out-p-2 c = simp length-set (omega arith)
-
-pub bounds-out-p-3 : goal.bounds-out-p-3
-bounds-out-p-3 c = simp length-set (omega arith)
-
-pub bounds-out-p-4 : goal.bounds-out-p-4
-bounds-out-p-4 c = simp length-set (omega arith)
-
 pub returns : goal.returns
-returns c = simp towards_suc
+returns c =
+    let s = c.args in
+    let w : s.p + 4 - s.p ≡ 4 = omega arith in
+    rw (c.copy_from_slice.ensures.after, w, drop-drop 4 s.p s.out.now)
+    (sym (simp append_assoc at (sets-eq (s.kind ∷ s.option ∷ 0 ∷ 0 ∷ []) s.out.now s.p (omega arith))))

@@ -15,7 +15,7 @@ returns c =
     let o1 = c.put_marks.new.out in
     let o2 = c.put.new.out in
     let e2 : o2 ≡ sets o1 (s.p + 4) (le 4 s.e.day) = c.put.ensures
-    ∙ ap (λ n. sets o1 (s.p + 4) (le 4 n)) c.wide32.ensures.0 in
+    ∙ ap (λ n. sets o1 (s.p + 4) (le 4 n)) c.from.ensures in
     c.put-2.ensures
     ∙ sets_then (le 4 s.e.day) (le 8 s.e.amount) o1 o2 (s.p + 4) (s.p + 8) e2 (omega (arith, length_le 4 s.e.day))
     ∙ sets_then four (le 4 s.e.day ++ le 8 s.e.amount) s.out.now o1 s.p (s.p + 4)

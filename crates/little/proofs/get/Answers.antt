@@ -1,46 +1,35 @@
 use Prim.Native.Nat.{suc, ◌+◌, ◌*◌, ◌-◌}
-use mathlib.Core.Path.{◌≡◌, sym, ap, ◌∙◌}
+use mathlib.Core.Path.{◌≡◌, refl, ap, ◌∙◌}
 use native.Mathlib.Omega.{arith}
-use borrow.Author.Rules.{rules}
 use lib.ListN.{get_or}
-use Rattle.little.specs.Little.{num}
-use Rattle.little.proofs.Numbers.{num_step, num_zero, num_lt, top_mono}
+use Rattle.little.specs.Little.{num, un}
+use Rattle.little.proofs.Numbers.{num_step, top_mono}
 use Rattle.little.proofs.get.Goals as goal
 
-pub loop-left-init : goal.loop-left-init
-loop-left-init c =
-    let a = c.args in
-    let z : a.w - a.w ≡ 0 = omega arith in
-    (search rules, rw z (sym (num_zero (a.p + a.w) a.b.now)))
+pub loop-i-init : goal.loop-i-init
+unfolding num un
+loop-i-init g c =
+    let z : g.row.W - g.row.W ≡ 0 = omega arith in
+    rw z (omega arith, refl, omega arith)
 
--- one byte more fits
-pub overflow_mul-acc : goal.overflow_mul-acc
-overflow_mul-acc c =
-    let a = c.args in
-    let l = c.loop-left.left in
-    omega (arith, num_lt (a.w - l) (a.p + l) a.b.now (omega arith) (λ i. (c.type_inv.b i).fits), top_mono (a.w - l) 7 (omega arith))
+pub overflow_mul-number : goal.overflow_mul-number
+overflow_mul-number g c = omega (arith, top_mono (g.row.W - c.loop-i.i) 7 (omega arith))
 
-pub overflow_add-acc : goal.overflow_add-acc
-overflow_add-acc c =
-    let a = c.args in
-    let l = c.loop-left.left in
-    omega (arith, num_lt (a.w - l) (a.p + l) a.b.now (omega arith) (λ i. (c.type_inv.b i).fits), top_mono (a.w - l) 7 (omega arith))
+pub overflow_add-number : goal.overflow_add-number
+overflow_add-number g c = omega (arith, top_mono (g.row.W - c.loop-i.i) 7 (omega arith))
 
-pub loop-left-preserved : goal.loop-left-preserved
-loop-left-preserved c =
-    let l = c.loop-left in
-    let a = c.args in
-    let k : suc (a.w - l.left) ≡ a.w - (l.left - 1) = omega arith in
-    let m : a.p + (l.left - 1) + 1 ≡ a.p + l.left = omega arith in
-    let b = a.b.now in
-    let t = num_step (a.w - l.left) (a.p + (l.left - 1)) b (omega arith) ∙ ap (λ i. get_or b (a.p + (l.left - 1)) 0 + 256 * num (a.w - l.left) i b) m in
-    (omega arith, omega (arith, t, ap (λ i. num i (a.p + (l.left - 1)) b) k, c.wide.ensures.0, l.invariant.1))
+pub loop-i-preserved : goal.loop-i-preserved
+loop-i-preserved g c =
+    let l = c.loop-i in
+    let w = g.row.W - l.i in
+    let p = c.args.p + (l.i - 1) in
+    let b = c.args.b.now in
+    let k : g.row.W - (l.i - 1) ≡ suc w = omega arith in
+    let q : p + 1 ≡ c.args.p + l.i = omega arith in
+    rw k (omega arith, omega (arith, num_step w p b (omega arith) ∙ ap (λ i. get_or b p 0 + 256 * num w i b) q), omega arith)
 
 pub returns : goal.returns
-returns c =
-    let a = c.args in
-    let z : c.loop-left.left ≡ 0 = omega arith in
-    let k : a.w - c.loop-left.left ≡ a.w = omega arith in
-    let m : a.p + c.loop-left.left ≡ a.p = omega arith in
-    let e : c.loop-left.acc ≡ num a.w a.p a.b.now = c.loop-left.invariant.1 ∙ rw (k, m) in
-    (e, rw e (num_lt a.w a.p a.b.now (omega arith) (λ i. (c.type_inv.b i).fits)))
+returns g c =
+    let w : g.row.W - c.loop-i.i ≡ g.row.W = omega arith in
+    let p : c.args.p + c.loop-i.i ≡ c.args.p = omega arith in
+    (rw (w, p) at c.loop-i.invariant.1, rw w at c.loop-i.invariant.2)

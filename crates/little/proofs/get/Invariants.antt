@@ -1,10 +1,7 @@
-use Prim.Native.Nat.{◌+◌, ◌-◌, ◌≤◌}
+use Prim.Native.Nat.{◌+◌, ◌-◌, ◌<◌, ◌≤◌}
 use mathlib.Core.Path.{◌≡◌}
-use Rattle.little.specs.Little.{num}
+use Rattle.little.specs.Little.{num, top}
 use Rattle.little.proofs.get.Given as goal
 
-abbrev pub invariant-loop-left : goal.invariant-loop-left
-invariant-loop-left l = (l.left ≤ l.w) × (l.acc ≡ num (l.w - l.left) (l.p + l.left) l.b)
-
-abbrev pub decreases-loop-left : goal.decreases-loop-left
-decreases-loop-left l = l.left
+abbrev pub invariant-loop-i : goal.invariant-loop-i
+invariant-loop-i g l = (l.i ≤ g.row.W) × (l.number ≡ num (g.row.W - l.i) (l.p + l.i) l.b) × (l.number < top (g.row.W - l.i))

@@ -1,25 +1,18 @@
-use Prim.Native.Nat.{suc, ◌-◌}
+use Prim.Native.Nat.{suc, ◌+◌, ◌-◌}
 use mathlib.Core.Path.{◌≡◌}
 use native.Mathlib.Omega.{arith}
-use native.Mathlib.Numerals.{add-one}
-use borrow.Author.Rules.{rules}
 use Rattle.little.specs.Little.{le}
 use Rattle.little.proofs.put.Goals as goal
 
-pub loop-left-init : goal.loop-left-init
+pub loop-i-preserved : goal.loop-i-preserved
 unfolding le
-loop-left-init c = search rules
-
-pub loop-left-preserved : goal.loop-left-preserved
-unfolding le
-loop-left-preserved c =
-    let l = c.loop-left in
-    let e : l.left ≡ suc (l.left - 1) = omega arith in
-    (rw add-one (rw e at l.invariant.0), omega arith, search rules)
+loop-i-preserved g c =
+    let w : g.row.W - c.loop-i.i ≡ suc (g.row.W - (c.loop-i.i + 1)) = omega arith in
+    let p : c.args.p + (c.loop-i.i + 1) ≡ suc (c.args.p + c.loop-i.i) = omega arith in
+    rw p (rw w at c.loop-i.invariant)
 
 pub returns : goal.returns
 unfolding le
-returns c =
-    let l = c.loop-left in
-    let e : l.left ≡ 0 = omega arith in
-    rw e at l.invariant.0
+returns g c =
+    let w : g.row.W - c.loop-i.i ≡ 0 = omega arith in
+    rw w at c.loop-i.invariant
