@@ -14,7 +14,7 @@ ghost use Rattle.std.specs.Prelude.{◌≡◌, length, replicate};
 ghost use Rattle.account.specs.State.{account_size, fresh_words, Fit, passes as is_account};
 ghost use Rattle.account.specs.Post.{Judges, Leaves, posted};
 
-use rules::kinds::{BILL, FEE, PAYMENT};
+use rules::kinds::Kind;
 use rules::{Answer, Event};
 pub use spans::WORDS;
 use spans::{LAYOUT, LAYOUT_NUMBER};
@@ -81,10 +81,10 @@ pub fn judge(m: &mut [u64], e: Event) -> Answer
     requires { Fit m.old }
     ensures { Judges m.old e result m.new }
 {
-    if e.kind == PAYMENT {
+    if e.is(Kind::Payment) {
         return ways::payment(m, e);
     }
-    if (e.kind == BILL) | (e.kind == FEE) {
+    if e.is(Kind::Bill) | e.is(Kind::Fee) {
         return ways::item(m, e);
     }
     judge_any(m, e)

@@ -12,7 +12,7 @@ use crate::spans::{
 };
 use deposit::Deposit;
 use ledger::Sums;
-use rules::kinds::DEPOSIT_MOVED;
+use rules::kinds::Kind;
 use rules::limits::FINAL_DAY;
 use rules::{Event, Service, View};
 
@@ -81,7 +81,7 @@ fn debts_for(m: &[u64], e: Event) -> Debts
 fn earned_for(d: Deposit, e: Event) -> bool
     ensures { result ≡ (is deposit_moved e && earned_by d e.day) }
 {
-    if e.kind == DEPOSIT_MOVED {
+    if e.is(Kind::DepositMoved) {
         return d.earned(basics::wide(e.day));
     }
     false

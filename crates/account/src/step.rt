@@ -6,7 +6,7 @@ ghost use Rattle.account.specs.State.{account_size, state_on, money_after, file_
 ghost use Rattle.account.specs.Looks.{Became, Passing, Applied};
 
 use crate::spans::{ARRANGEMENT, COLLECTION, DEPOSIT, LAST, LEDGER, MEDICAL, RECEIPTS, WORDS};
-use rules::kinds::PAYMENT;
+use rules::kinds::Kind;
 use rules::{Event, View};
 
 // The money: ledger, receipts and arrangement.
@@ -51,5 +51,5 @@ pub fn apply(m: &mut [u64], e: Event, v: View, charge: u64) -> u64
     keep_file(m, e);
     set_service(m, e);
     let n = receipts::count(&m[RECEIPTS..LEDGER]);
-    basics::select64(e.kind == PAYMENT, n, 0)
+    basics::select64(e.is(Kind::Payment), n, 0)
 }

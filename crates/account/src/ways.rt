@@ -10,7 +10,7 @@ ghost use Rattle.account.specs.Looks.{Became, Applied, Free, only_item};
 
 use crate::spans::{ARRANGEMENT, COLLECTION, DEPOSIT, LAST, LEDGER, RECEIPTS, WORDS};
 use collection::CLOSED;
-use rules::kinds::BILL;
+use rules::kinds::Kind;
 use rules::limits::{LIMIT, MOST_OPEN};
 use rules::{Answer, Event};
 
@@ -78,7 +78,7 @@ fn amount_of(m: &[u64], e: Event) -> u64
     requires { (length m.now ≡ account_size) × (only_item e ≡ true) }
     ensures { result ≡ min (charge_of (view (state_on m.now) e) e) largest }
 {
-    if e.kind == BILL {
+    if e.is(Kind::Bill) {
         let s = ledger::sums_of(&m[LEDGER..WORDS]);
         let late = amounts::late_charge(basics::minus_or_zero(s.charged, s.credits));
         return basics::plus(e.amount, late);

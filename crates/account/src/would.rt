@@ -5,7 +5,7 @@ ghost use Rattle.account.specs.Post.{receipt_at, answer_at, answer_to};
 
 use crate::spans::{LEDGER, RECEIPTS};
 use crate::{passes, rows};
-use rules::kinds::PAYMENT;
+use rules::kinds::Kind;
 use rules::{Answer, Event};
 
 // The receipt that the event takes where it is accepted, 0 where it is no payment.
@@ -14,7 +14,7 @@ fn receipt(m: &[u64], e: Event) -> u64
     ensures { result ≡ receipt_at (state_on m.now) e }
 {
     let n = receipts::count(&m[RECEIPTS..LEDGER]);
-    basics::select64(e.kind == PAYMENT, n + 1, 0)
+    basics::select64(e.is(Kind::Payment), n + 1, 0)
 }
 
 // In memory that is known to be an account.

@@ -9,7 +9,7 @@ ghost use Rattle.rules.specs.Limits.{limit};
 ghost use Rattle.arrangement.specs.Arrangement.{arrangement_size, arrangement_on, arrangement_after, in_force_by, arrangement_ok, ArrangementFit};
 
 use rules::Event;
-use rules::kinds::{ARRANGEMENT, PAYMENT, RETURNED_PAYMENT};
+use rules::kinds::Kind;
 use rules::limits::{FINAL_DAY, LIMIT, MOST_PARTS, PART_DAYS};
 use span::Part;
 
@@ -43,10 +43,14 @@ impl Arrangement {
         requires payment_bound { cond (is returned_payment e) payment 0 ≤ limit }
         ensures { result ≡ arrangement_after self e arrears payment }
     {
-        let k = e.kind;
-        let anew = k == ARRANGEMENT;
-        let paid = self.paid + if k == PAYMENT { e.amount } else { 0 };
-        let returned = self.returned + if k == RETURNED_PAYMENT { payment } else { 0 };
+        let anew = e.is(Kind::Arrangement);
+        let paid = self.paid + if e.is(Kind::Payment) { e.amount } else { 0 };
+        let returned = self.returned
+            + if e.is(Kind::ReturnedPayment) {
+                payment
+            } else {
+                0
+            };
         Arrangement {
             day: if anew { u64::from(e.day) } else { self.day },
             parts: if anew {
@@ -120,11 +124,11 @@ pub fn step(w: &mut [u64], e: Event, arrears: u64, payment: u64)
     requires { (length w.old ≡ arrangement_size) × ArrangementFit (arrangement_on w.old) × WellFormed e × (cond (is returned_payment e) payment 0 ≤ limit) }
     ensures { arrangement_on w.new ≡ arrangement_after (arrangement_on w.old) e arrears payment }
 {
-    if e.kind == PAYMENT {
+    if e.is(Kind::Payment) {
         w[PAID] += e.amount;
         return;
     }
-    if (e.kind == RETURNED_PAYMENT) | (e.kind == ARRANGEMENT) {
+    if e.is(Kind::ReturnedPayment) | e.is(Kind::Arrangement) {
         span::change(w, |a: Arrangement| a.after(e, arrears, payment));
     }
 }

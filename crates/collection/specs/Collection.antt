@@ -75,6 +75,10 @@ collection_after c e owing =
 abbrev pub watched : Collection → Event → Bool
 watched c e = is final_notice e || eqb c.notice.live 1
 
+-- e sets the service, or is a notice or a call
+abbrev pub concerns : Event → Bool
+concerns e = is final_notice e || is call e || is disconnection e || is reconnection e || is closing e
+
 -- an event that is none of collection's: a notice may lapse
 abbrev pub lapsed_by : Collection → ℕ → Collection
 lapsed_by c owing =

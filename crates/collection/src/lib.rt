@@ -5,9 +5,9 @@
 ghost use Rattle.std.specs.Prelude.{◌≡◌, cond, ◌+◌, eqb, length};
 ghost use Rattle.rules.specs.declared.Service.{Service as ServiceT};
 ghost use Rattle.rules.specs.History.{within};
-ghost use Rattle.collection.specs.Collection.{service_by, served_after, notice_after, live_by, in_days_by, calls_after, recent_by, called_by, collection_after, watched, lapsed_by, collection_ok, collection_size, collection_on};
+ghost use Rattle.collection.specs.Collection.{service_by, served_after, notice_after, live_by, in_days_by, calls_after, recent_by, called_by, collection_after, watched, concerns, lapsed_by, collection_ok, collection_size, collection_on};
 
-use rules::kinds::{CALL, CLOSING, DISCONNECTION, FINAL_NOTICE, RECONNECTION};
+use rules::kinds::Kind;
 use rules::limits::{CALL_DAYS, ENOUGH, FINAL_DAY, NOTICE_FROM, NOTICE_TO};
 use rules::{Event, Service};
 use span::Part;
@@ -75,12 +75,11 @@ fn recent(next: u64, t: u64) -> bool
 fn service_after(service: u64, e: Event) -> u64
     ensures { result ≡ served_after service e }
 {
-    let k = e.kind;
-    if k == DISCONNECTION {
+    if e.is(Kind::Disconnection) {
         OFF
-    } else if k == RECONNECTION {
+    } else if e.is(Kind::Reconnection) {
         ON
-    } else if k == CLOSING {
+    } else if e.is(Kind::Closing) {
         CLOSED
     } else {
         service
@@ -92,9 +91,8 @@ impl Notice {
     fn after(self, e: Event, arrears: u64) -> Notice
         ensures { result ≡ notice_after self e arrears }
     {
-        let k = e.kind;
-        let notice = k == FINAL_NOTICE;
-        let live = (notice | (self.live == 1)) & !(k == DISCONNECTION) & (ENOUGH <= arrears);
+        let notice = e.is(Kind::FinalNotice);
+        let live = (notice | (self.live == 1)) & !e.is(Kind::Disconnection) & (ENOUGH <= arrears);
         Notice {
             day: if notice { u64::from(e.day) } else { self.day },
             live: u64::from(live),
@@ -118,8 +116,7 @@ impl Calls {
     fn after(self, e: Event) -> Calls
         ensures { result ≡ calls_after self e }
     {
-        let k = e.kind;
-        let call = k == CALL;
+        let call = e.is(Kind::Call);
         let next = u64::from(e.day) + 1;
         let earlier = if self.last == next {
             self.earlier
@@ -229,7 +226,7 @@ pub fn watches(w: &[u64], e: Event) -> bool
     requires { length w.now ≡ collection_size }
     ensures { result ≡ watched (collection_on w.now) e }
 {
-    (e.kind == FINAL_NOTICE) | (w[NOTICE_LIVE] == 1)
+    e.is(Kind::FinalNotice) | (w[NOTICE_LIVE] == 1)
 }
 
 // Whether there is no notice that an event could make lapse.
@@ -251,14 +248,30 @@ pub fn lapse(w: &mut [u64], arrears: u64)
     }
 }
 
+// Whether the event is of a kind that sets the service, or is a notice or a call.
+fn concerns(e: Event) -> bool
+    ensures { result ≡ concerns e }
+{
+    matches!(
+        Kind::try_from(e.kind),
+        Ok(
+            Kind::FinalNotice
+                | Kind::Call
+                | Kind::Disconnection
+                | Kind::Reconnection
+                | Kind::Closing
+        )
+    )
+}
+
 // The event is accepted; `arrears` are those after it, on its day.
 pub fn step(w: &mut [u64], e: Event, arrears: u64)
     requires { length w.old ≡ collection_size }
     ensures { collection_on w.new ≡ collection_after (collection_on w.old) e arrears }
 {
-    if e.kind < FINAL_NOTICE {
-        lapse(w, arrears);
-    } else {
+    if concerns(e) {
         span::change(w, |c: Collection| c.after(e, arrears));
+    } else {
+        lapse(w, arrears);
     }
 }

@@ -8,9 +8,7 @@ ghost use Rattle.deposit.specs.Deposit.{is_full, deposit_after, concerns, deposi
 ghost use Rattle.deposit.specs.Conduct.{conduct_after, in_year_by, quiet_by, conduct_ok};
 
 use rules::Event;
-use rules::kinds::{
-    CLOSING, DEPOSIT_ASKED, DEPOSIT_MOVED, DEPOSIT_PAID, DISCONNECTION, FINAL_NOTICE,
-};
+use rules::kinds::Kind;
 use rules::limits::{FINAL_DAY, MOST_DEPOSIT, YEAR};
 use span::Part;
 
@@ -64,14 +62,17 @@ impl Conduct {
     fn after(self, e: Event) -> Conduct
         ensures { result ≡ conduct_after self e }
     {
-        let k = e.kind;
-        let notice = k == FINAL_NOTICE;
+        let notice = e.is(Kind::FinalNotice);
         let next = u64::from(e.day) + 1;
         Conduct {
             first: if notice { next } else { self.first },
             second: if notice { self.first } else { self.second },
             third: if notice { self.second } else { self.third },
-            cut: if k == DISCONNECTION { next } else { self.cut },
+            cut: if e.is(Kind::Disconnection) {
+                next
+            } else {
+                self.cut
+            },
         }
     }
 
@@ -105,11 +106,10 @@ impl Deposit {
         requires well_formed { WellFormed e }
         ensures { result ≡ deposit_after self e }
     {
-        let k = e.kind;
-        let moves = (k == DEPOSIT_MOVED) | (k == CLOSING);
-        let paid = k == DEPOSIT_PAID;
+        let moves = e.is(Kind::DepositMoved) | e.is(Kind::Closing);
+        let paid = e.is(Kind::DepositPaid);
         let held = self.held + if paid { e.amount } else { 0 };
-        let asked = if k == DEPOSIT_ASKED {
+        let asked = if e.is(Kind::DepositAsked) {
             e.amount
         } else {
             self.required
@@ -175,11 +175,17 @@ impl Part for Deposit {
 fn concerns(e: Event) -> bool
     ensures { result ≡ concerns e }
 {
-    let k = e.kind;
-    ((DEPOSIT_ASKED <= k) & (k <= DEPOSIT_MOVED))
-        | (k == FINAL_NOTICE)
-        | (k == DISCONNECTION)
-        | (k == CLOSING)
+    matches!(
+        Kind::try_from(e.kind),
+        Ok(
+            Kind::DepositAsked
+                | Kind::DepositPaid
+                | Kind::DepositMoved
+                | Kind::FinalNotice
+                | Kind::Disconnection
+                | Kind::Closing
+        )
+    )
 }
 
 // The event is accepted.

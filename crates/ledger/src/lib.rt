@@ -12,7 +12,7 @@ ghost use Rattle.ledger.specs.Ring.{day_in, day_at, upto_at};
 ghost use Rattle.ledger.specs.Ledger.{ledger_size, ledger_on, credits_by, sums_of, arrears_by, open_by, no_item, sum_before, entered_in, credited_in, paid_from, settled, ledger_after, Settled, is_settled, head_ok, ledger_ok, LedgerFit, LedgerRoom};
 
 use rules::Event;
-use rules::kinds::PAYOUT;
+use rules::kinds::Kind;
 use rules::limits::{GRACE, LIMIT, MOST_OPEN};
 
 pub const WORDS: usize = 134;
@@ -208,7 +208,7 @@ pub fn step(w: &mut [u64], e: Event, adds: bool, charge: u64, credit: u64)
         charge_item(w, u64::from(e.day), charge);
         return;
     }
-    if e.kind == PAYOUT {
+    if e.is(Kind::Payout) {
         pay_out(w, e.amount);
         return;
     }

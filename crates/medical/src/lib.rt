@@ -7,7 +7,7 @@ ghost use Rattle.rules.specs.Range.{WellFormed};
 ghost use Rattle.medical.specs.Medical.{medical_size, medical_on, medical_after, certified_by, approved_by, medical_ok};
 
 use rules::Event;
-use rules::kinds::{APPROVAL, CERTIFICATE};
+use rules::kinds::Kind;
 use rules::limits::{APPROVAL_DAYS, CERTIFICATE_DAYS, FINAL_DAY};
 use span::Part;
 
@@ -46,10 +46,9 @@ impl Medical {
         requires { WellFormed e }
         ensures { result ≡ medical_after self e }
     {
-        let k = e.kind;
-        let certificate = k == CERTIFICATE;
+        let certificate = e.is(Kind::Certificate);
         let certified_to = self.certified_to.max(end_of(certificate, e));
-        let approved_to = self.approved_to.max(end_of(k == APPROVAL, e));
+        let approved_to = self.approved_to.max(end_of(e.is(Kind::Approval), e));
         Medical {
             certified_to,
             approved_to: if certificate { 0 } else { approved_to },
@@ -103,7 +102,7 @@ pub fn step(w: &mut [u64], e: Event)
     requires { (length w.old ≡ medical_size) × WellFormed e }
     ensures { medical_on w.new ≡ medical_after (medical_on w.old) e }
 {
-    if (e.kind == CERTIFICATE) | (e.kind == APPROVAL) {
+    if e.is(Kind::Certificate) | e.is(Kind::Approval) {
         span::change(w, |m: Medical| m.after(e));
     }
 }

@@ -10,7 +10,7 @@ ghost use Rattle.rules.specs.History.{is};
 ghost use Rattle.receipts.specs.Receipts.{receipts_size, receipts_on, receipts_after, payment_by, receipts_ok, ReceiptsFit};
 
 use rules::Event;
-use rules::kinds::{PAYMENT, RETURNED_PAYMENT};
+use rules::kinds::Kind;
 use rules::limits::{KNOWN_RECEIPTS, LIMIT};
 
 pub const WORDS: usize = 33;
@@ -54,7 +54,7 @@ pub fn named(w: &[u64], e: Event) -> u64
     requires { length w.now ≡ receipts_size }
     ensures { result ≡ cond (is returned_payment e) (payment_by (receipts_on w.now) e.amount) 0 }
 {
-    if e.kind == RETURNED_PAYMENT {
+    if e.is(Kind::ReturnedPayment) {
         payment(w, e.amount)
     } else {
         0
@@ -75,11 +75,11 @@ pub fn step(w: &mut [u64], e: Event)
     requires { (length w.old ≡ receipts_size) × ReceiptsFit (receipts_on w.old) }
     ensures { receipts_on w.new ≡ receipts_after (receipts_on w.old) e }
 {
-    if e.kind == PAYMENT {
+    if e.is(Kind::Payment) {
         let n = w[COUNT] + 1;
         w[COUNT] = n;
         w[place(n)] = e.amount;
-    } else if e.kind == RETURNED_PAYMENT {
+    } else if e.is(Kind::ReturnedPayment) {
         w[place(e.amount)] = 0;
     }
 }

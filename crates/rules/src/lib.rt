@@ -7,7 +7,7 @@ pub mod limits;
 pub mod refusals;
 
 ghost use Rattle.std.specs.Prelude.{◌≡◌};
-ghost use Rattle.rules.specs.History.{is, within};
+ghost use Rattle.rules.specs.History.{is};
 ghost use Rattle.rules.specs.Service.{is_on, is_off, is_closed};
 ghost use Rattle.rules.specs.Kinds.{kind_number};
 
@@ -117,11 +117,4 @@ impl Service {
     {
         self == Service::Closed
     }
-}
-
-// Whether t lies in the days from a to b, both of them included.
-pub fn within(a: u64, b: u64, t: u64) -> bool
-    ensures { result ≡ within a b t }
-{
-    (a <= t) & (t <= b)
 }

@@ -1,4 +1,5 @@
-use native.Mathlib.Omega.{arith}
+use Rattle.std.proofs.Common.{sym, ◌∙◌, arith}
+use borrow.Author.Tests.{eqb-true}
 use Rattle.rules.specs.Kinds.{payment}
 use Rattle.rules.proofs.Ranged.{ranged}
 use Rattle.arrangement.proofs.step.Goals as goal
@@ -7,4 +8,6 @@ use Rattle.arrangement.proofs.step.Goals as goal
 pub overflow_add-w : goal.overflow_add-w
 overflow_add-w c =
     let sums = c.requires.1 in
-    omega (arith, sums.paid_le, sums.returned_le, (ranged payment c.args.e c.requires.2.fields_fit c.if-e-eq-PAYMENT.true).amount_high)
+    let e = c.args.e in
+    let z = eqb-true e.kind payment (sym c.is.ensures ∙ c.if-is.true) in
+    omega (arith, sums.paid_le, sums.returned_le, (ranged payment e c.requires.2.fields_fit z).amount_high)

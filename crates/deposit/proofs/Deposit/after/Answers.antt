@@ -1,4 +1,5 @@
-use native.Mathlib.Omega.{arith}
+use Rattle.std.proofs.Common.{sym, ◌∙◌, arith}
+use borrow.Author.Tests.{eqb-true}
 use Rattle.rules.specs.Kinds.{deposit_paid}
 use Rattle.rules.proofs.Ranged.{ranged}
 use Rattle.deposit.proofs.Deposit.after.Goals as goal
@@ -6,7 +7,10 @@ use Rattle.deposit.proofs.Deposit.after.Goals.{then-paid, else-paid}
 
 pub overflow_add-held : goal.overflow_add-held
 overflow_add-held c =
+    let e = c.args.e in
     elim c.if-paid.branch [
-      | then-paid w ↦ omega (arith, w.held-is, (ranged deposit_paid c.args.e c.requires.well_formed.fields_fit w.if-paid.true).amount_high)
+      | then-paid w ↦
+          let z = eqb-true e.kind deposit_paid (sym c.is-paid.ensures ∙ w.if-paid.true) in
+          omega (arith, w.held-is, (ranged deposit_paid e c.requires.well_formed.fields_fit z).amount_high)
       | else-paid w ↦ omega (arith, w.held-is)
     ]

@@ -1,12 +1,16 @@
-use native.Mathlib.Omega.{arith}
+use Rattle.std.proofs.Common.{sym, ◌∙◌, arith}
 use borrow.Author.Tests.{eqb-true}
 use Rattle.rules.specs.Kinds.{certificate, approval}
 use Rattle.rules.proofs.Ranged.{ranged}
 use Rattle.medical.proofs.Medical.after.Goals as goal
 
 pub end_of-requires : goal.end_of-requires
-end_of-requires c = λ q. (ranged certificate c.args.e c.requires.fields_fit (eqb-true _ _ q)).amount_high
+end_of-requires c =
+    let e = c.args.e in
+    λ q. (ranged certificate e c.requires.fields_fit (eqb-true e.kind certificate (sym c.is-certificate.ensures ∙ q))).amount_high
 
 pub end_of-requires-2 : goal.end_of-requires-2
-end_of-requires-2 c = λ q. let a =
-    (ranged approval c.args.e c.requires.fields_fit (eqb-true _ _ q)).amount_high in omega arith
+end_of-requires-2 c =
+    let e = c.args.e in
+    λ q.
+    let a = (ranged approval e c.requires.fields_fit (eqb-true e.kind approval (sym c.is.ensures ∙ q))).amount_high in omega arith
