@@ -1,22 +1,24 @@
 -- What the proofs of posting cite: what the test tells, what an event that passes has room for, and the exits.
-use Prim.Native.Nat.{ℕ, min}
-use mathlib.Core.Path.{◌≡◌, sym, ap, ◌∙◌}
+use Prim.Native.Nat.{ℕ}
+use mathlib.Core.Path.{◌≡◌, refl, sym, ap, ◌∙◌}
 use mathlib.Core.Bool.{Bool, true, false, cond, not, ◌&&◌}
 use mathlib.Core.List.{List, [], ◌∷◌}
 use native.Mathlib.Omega.{arith}
 use lib.Dec.{ltb, eqb}
 use lib.ListN.{length}
-use borrow.Author.Tests.{ltb-false, eqb-true, eq-eqb, ne_eqb}
-use Rattle.basics.specs.Machine.{largest}
-use Rattle.basics.proofs.Cases.{on, on_eq, links, and_left, and_right}
+use borrow.Author.Tests.{ltb-false, eqb-true, eqb-false, eq-eqb, ne_eqb}
+use Rattle.basics.proofs.Cases.{on, links, and_left, and_right}
 use Rattle.rules.specs.declared.Event.{Event}
 use Rattle.rules.specs.declared.View.{View}
-use Rattle.rules.specs.declared.Answer.{Answer}
-use Rattle.rules.specs.declared.Answer.TheVariants.{Accepted, Refused}
+use Rattle.std.proofs.Common.{Ok, Err}
+use Rattle.rules.specs.declared.refusals.Refusal.{Refusal}
+use Rattle.rules.specs.declared.refusals.Refusal.TheVariants.{NoAccount}
 use Rattle.rules.specs.Limits.{final_day}
 use Rattle.rules.specs.Range.{in_range, WellFormed}
-use Rattle.rules.specs.Table.{charge_of, refusal_by}
+use Rattle.rules.specs.Table.{refusal_by}
 use Rattle.rules.specs.Accepted.{day_rows}
+use Rattle.rules.specs.Answer.{Answer, answered}
+use Rattle.rules.proofs.Numbered.{answered_ok, answered_err}
 use Rattle.table.specs.Seen.{looks_at_debt, seen_of}
 use Rattle.table.proofs.Seen.{refusal_seen}
 use Rattle.collection.specs.Collection.{service_by}
@@ -29,17 +31,10 @@ use Rattle.receipts.specs.Receipts.{receipts_ok}
 use Rattle.receipts.proofs.Law.{receipts_fit}
 use Rattle.ledger.specs.Ledger.{ledger_ok}
 use Rattle.ledger.proofs.Test.{ledger_fit}
-use Rattle.account.specs.State.{State, account_size, state_on, words_of, service_ok, file_ok, money_ok, state_ok, passes, StateFit, Fit, view, applied}
+use Rattle.account.specs.State.{State, account_size, state_on, words_of, service_ok, file_ok, money_ok, state_ok, passes, StateFit, Fit, view}
 use Rattle.account.specs.Post.{refusal_at, receipt_at, answer_at, state_after, answer_to, words_after, Leaves, Judges}
-use Rattle.account.specs.Looks.{debts_for, money_for, view_from, Asked}
+use Rattle.account.specs.Looks.{debts_for, money_for, view_from, offer_of, Passing, Free, Applied}
 use Rattle.account.proofs.Words.{account_whole}
-
--- ---- the test goes part by part
-pub first_passes : (a b : Bool) → a ≡ true → b ≡ (a && b)
-first_passes a b e = rw e
-
-pub first_fails : (a b : Bool) → a ≡ false → false ≡ (a && b)
-first_fails a b e = rw e
 
 -- ---- what the test tells
 pub state_fit : (s : State) → state_ok s ≡ true → StateFit s
@@ -77,13 +72,13 @@ pub seen_is : (s : State) (e : Event) → view_from (service_by s.collection.ser
 unfolding view
 seen_is s e = on (looks_at_debt e) (λ q. rw q) (λ q. rw q)
 
--- ---- rows 1 to 3
+-- ---- the rows of the day and the fields, and those after them
 -- none of them refuses: the day and the fields are in range
-pub well_formed : (last : ℕ) (e : Event) → day_rows last e.day (cond (not (in_range e)) 3 0) ≡ 0 → WellFormed e
-well_formed last e h =
+pub well_formed : (last : ℕ) (e : Event) (n : ℕ) → day_rows last e.day (cond (not (in_range e)) 3 n) ≡ 0 → WellFormed e × (n ≡ 0)
+well_formed last e n h =
     on (ltb final_day e.day) (λ q. absurd (omega (arith, rw q at h)))
     (λ q. on (ltb e.day last) (λ r. absurd (omega (arith, rw (q, r) at h)))
-    (λ r. on (in_range e) (λ w. record { in_time = ltb-false final_day e.day q; fields_fit = w })
+    (λ r. on (in_range e) (λ w. (record { in_time = ltb-false final_day e.day q; fields_fit = w }, rw (q, r, w) at h))
     (λ w. absurd (omega (arith, rw (q, r, w) at h)))))
 
 -- the whole number, where rows 1 to 3 refuse, and where they do not
@@ -99,76 +94,65 @@ rows_rest last t n b h =
     (λ q. on (ltb t last) (λ r. absurd (omega (arith, rw (q, r) at h)))
     (λ r. on b (λ w. rw (q, r, w)) (λ w. absurd (omega (arith, rw (q, r, w) at h)))))
 
+-- what a row that lets pass answers
+abbrev done : Unit {0}
+done = tt
+
 module _ (s : State) (e : Event) where
   abbrev first : ℕ
   first = day_rows s.last e.day (cond (not (in_range e)) 3 0)
 
-  pub refusal_first : (first ≡ 0 → ⊥) → refusal_at s e ≡ first
+  -- rows 1 to 3 refuse: so is the event
+  pub refused_first : {A : Type 0} (r : Refusal) (y : A) → Err r ≡ answered first done → Err r ≡ answered (refusal_at s e) y
   unfolding refusal_at
-  refusal_first h = rows_first s.last e.day (refusal_by (view s e) e) (in_range e) h
+  refused_first r y h =
+      let g = answered_err first r done y h in
+      rw (rows_first s.last e.day (refusal_by (view s e) e) (in_range e) (eqb-false first 0 g.0)) g.1
 
-  pub refusal_view : first ≡ 0 → refusal_by (view s e) e ≡ refusal_at s e
+  -- they do not, and the rows after them, asked by what the event's kind looks at, refuse, or do not either
+  pub refusal_rest : (v : View) → Ok done ≡ answered first done → refusal_by v e ≡ refusal_by (view s e) e → refusal_by v e ≡ refusal_at s e
   unfolding refusal_at
-  refusal_view h = sym (rows_rest s.last e.day (refusal_by (view s e) e) (in_range e) h)
+  refusal_rest v h l = rw (rows_rest s.last e.day (refusal_by (view s e) e) (in_range e) (answered_ok first done done h).0) l
 
-  -- what the event's kind looks at is enough to ask the table
-  pub refusal_rest : (v : View) → first ≡ 0 → v ≡ seen_of (view s e) e → refusal_by v e ≡ refusal_at s e
-  refusal_rest v h l = ap (λ x. refusal_by x e) l ∙ (refusal_seen (view s e) e ∙ refusal_view h)
+  pub refused_rest : {A : Type 0} (v : View) (r : Refusal) (y : A) → Ok done ≡ answered first done → refusal_by v e ≡ refusal_by (view s e) e
+      → Err r ≡ answered (refusal_by v e) done → Err r ≡ answered (refusal_at s e) y
+  refused_rest v r y h l q = rw (← refusal_rest v h l) (answered_err (refusal_by v e) r done y q).1
 
--- ---- the rows asked together: the first that refuses, and what is known where none does
-pub rows_asked : (m : List ℕ) (e : Event) → Fit m → (last first : ℕ) (v : View) (charge rest n : ℕ)
-    → last ≡ (state_on m).last → first ≡ day_rows last e.day (cond (not (in_range e)) 3 0)
-    → v ≡ seen_of (view (state_on m) e) e → charge ≡ min (charge_of v e) largest → rest ≡ refusal_by v e → n ≡ cond (eqb first 0) rest first
-    → Asked m e (record { number = n; view = v; charge = charge })
-rows_asked m e f last first v charge rest n d p w h q r =
-    let s = state_on m in
-    let first_is = p ∙ ap (λ x. day_rows x e.day (cond (not (in_range e)) 3 0)) d in
-    on_eq first 0
-    (λ y z.
-    let u : n ≡ rest = rw y at r in
-    let none = sym first_is ∙ z in
-    record {
-      number_is = u ∙ (q ∙ refusal_rest s e v none w);
-      passing = λ x. record { fit = f; well = well_formed s.last e none; looked = w; free = sym q ∙ (sym u ∙ x); charged = h };
-    })
-    (λ y z.
-    let u : n ≡ first = rw y at r in
-    record {
-      number_is = u ∙ (first_is ∙ sym (refusal_first s e (λ x. z (first_is ∙ x))));
-      passing = λ x. absurd (z (sym u ∙ x));
-    })
+  pub passed_rest : (v : View) → Ok done ≡ answered first done → refusal_by v e ≡ refusal_by (view s e) e → Ok done ≡ answered (refusal_by v e) done → refusal_at s e ≡ 0
+  passed_rest v h l q = sym (refusal_rest v h l) ∙ (answered_ok (refusal_by v e) done done q).0
 
--- ---- the answer
-module _ (s : State) (e : Event) where
-  pub answer_refused : (n : ℕ) → n ≡ refusal_at s e → (n ≡ 0 → ⊥) → Refused n ≡ answer_at s e
-  unfolding answer_at
-  answer_refused n p z = let q : eqb (refusal_at s e) 0 ≡ false = ne_eqb (refusal_at s e) 0 (λ y. z (p ∙ y)) in rw (q, p)
+-- ---- what is known of an event that no row refuses
+pub free_of : (m : List ℕ) (e : Event) → Fit m → refusal_at (state_on m) e ≡ 0 → Free m e
+unfolding refusal_at
+free_of m e f z =
+    let w = well_formed (state_on m).last e (refusal_by (view (state_on m) e) e) z in
+    record { fit = f; well = w.0; free = w.1 }
 
-  pub answer_accepted : (r : ℕ) → refusal_at s e ≡ 0 → r ≡ receipt_at s e → Accepted r ≡ answer_at s e
-  unfolding answer_at
-  answer_accepted r z p = let y : eqb (refusal_at s e) 0 ≡ true = eq-eqb (refusal_at s e) 0 z in rw (y, p)
+pub passing_of : (m : List ℕ) (e : Event) → Fit m → refusal_at (state_on m) e ≡ 0 → Passing m e (offer_of (state_on m) e).view (offer_of (state_on m) e).charge
+passing_of m e f z =
+    let w = free_of m e f z in
+    record { fit = f; well = w.well; looked = refl; free = refusal_seen (view (state_on m) e) e ∙ w.free; charged = refl }
 
 -- ---- the exits of a judging
-pub judges_refused : (m : List ℕ) (e : Event) (n : ℕ) → n ≡ refusal_at (state_on m) e → (n ≡ 0 → ⊥) → Judges m e (Refused n) m
-unfolding state_after
-judges_refused m e n p z =
-    let q : eqb (refusal_at (state_on m) e) 0 ≡ false = ne_eqb (refusal_at (state_on m) e) 0 (λ y. z (p ∙ y)) in
-    record { answer_is = answer_refused (state_on m) e n p z; state_is = rw q }
+module _ (m : List ℕ) (e : Event) where
+  pub judges_refused : {A : Type 0} (r : Refusal) (y : A) → Err r ≡ answered (refusal_at (state_on m) e) y → Judges m e (Err r) m
+  unfolding answer_at state_after
+  judges_refused r y h =
+      let g = answered_err (refusal_at (state_on m) e) r y (receipt_at (state_on m) e) h in
+      record { answer_is = g.1; state_is = rw g.0 }
 
-pub judges_accepted : (m : List ℕ) (e : Event) (r : ℕ) (k : List ℕ)
-    → refusal_at (state_on m) e ≡ 0 → r ≡ receipt_at (state_on m) e
-    → state_on k ≡ applied (state_on m) e (view (state_on m) e) → Judges m e (Accepted r) k
-unfolding state_after
-judges_accepted m e r k z p q =
-    let y : eqb (refusal_at (state_on m) e) 0 ≡ true = eq-eqb (refusal_at (state_on m) e) 0 z in
-    record { answer_is = answer_accepted (state_on m) e r z p; state_is = q ∙ rw y }
+  pub judges_accepted : (r : ℕ) (k : List ℕ) → refusal_at (state_on m) e ≡ 0 → Applied m e (view (state_on m) e) k r → Judges m e (Ok r) k
+  unfolding answer_at state_after
+  judges_accepted r k z a =
+      let y : eqb (refusal_at (state_on m) e) 0 ≡ true = eq-eqb (refusal_at (state_on m) e) 0 z in
+      record { answer_is = rw (y, a.receipt_is); state_is = a.became.state_is ∙ rw y }
 
 -- ---- the answer in any memory
 pub answers_passed : (m : List ℕ) (e : Event) → passes m ≡ true → answer_at (state_on m) e ≡ answer_to m e
 unfolding answer_to
 answers_passed m e q = rw q
 
-pub answers_failed : (m : List ℕ) (e : Event) → passes m ≡ false → Refused 0 ≡ answer_to m e
+pub answers_failed : (m : List ℕ) (e : Event) → passes m ≡ false → Err NoAccount ≡ answer_to m e
 unfolding answer_to
 answers_failed m e q = rw q
 
@@ -181,6 +165,6 @@ leaves_judged m e r k q l j =
       words_are = sym (account_whole k (l ∙ passed_size m q)) ∙ (ap words_of j.state_is ∙ rw q);
     }
 
-pub leaves_failed : (m : List ℕ) (e : Event) → passes m ≡ false → Leaves m e (Refused 0) m
+pub leaves_failed : (m : List ℕ) (e : Event) → passes m ≡ false → Leaves m e (Err NoAccount) m
 unfolding words_after
 leaves_failed m e q = record { answer_is = answers_failed m e q; words_are = rw q }

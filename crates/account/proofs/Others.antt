@@ -11,8 +11,9 @@ use Rattle.span.specs.Span.{put}
 use Rattle.span.proofs.Law.{put_length, put_same, before, after}
 use Rattle.rules.specs.declared.Event.{Event}
 use Rattle.rules.specs.declared.View.{View}
-use Rattle.rules.specs.declared.Answer.{Answer}
-use Rattle.rules.specs.declared.Answer.TheVariants.{Refused}
+use Rattle.std.proofs.Common.{Err}
+use Rattle.rules.specs.declared.refusals.Refusal.TheVariants.{NoAccount}
+use Rattle.rules.specs.Answer.{Answer}
 use Rattle.rules.specs.Kinds.{payment, returned_payment}
 use Rattle.rules.specs.History.{is}
 use Rattle.rules.specs.Money.{charges}
@@ -91,5 +92,5 @@ leaves_at i w all ys e r z h a b =
     let q = le-leb (i * account_size + account_size) (length all) h in
     rw z (record { answer_is = rw q (rw z at a); words_are = rw q (ap (λ x. put (i * account_size) account_size x all) (rw z at b)) })
 
-pub leaves_none : (i : ℕ) (all : List ℕ) (e : Event) → length all < i * account_size + account_size → LeavesAt i all e (Refused 0) all
+pub leaves_none : (i : ℕ) (all : List ℕ) (e : Event) → length all < i * account_size + account_size → LeavesAt i all e (Err NoAccount) all
 leaves_none i all e h = let q = lt-leb (i * account_size + account_size) (length all) h in record { answer_is = rw q; words_are = rw q }

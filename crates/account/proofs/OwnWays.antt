@@ -1,35 +1,34 @@
 -- What the proofs of the ways of payments, bills and fees cite: their rows, and the account after their parts' spans came back.
 use Prim.Native.Nat.{ℕ, ◌+◌, ◌-◌, ◌≤◌, ◌<◌, min}
 use mathlib.Core.Path.{◌≡◌, refl, sym, ap, subst, ◌∙◌}
-use mathlib.Core.Bool.{true, false, cond, not, ◌&&◌, ◌||◌, and-true, and-false}
+use mathlib.Core.Bool.{Bool, true, false, cond, ◌&&◌, ◌||◌, and-true, and-false}
 use mathlib.Core.List.{List, [], ◌∷◌}
 use mathlib.Core.Logic.{◌⊎◌, inl, inr}
 use native.Mathlib.Omega.{arith}
 use native.Mathlib.Nat.{add-zero}
-use lib.Dec.{leb, ltb, eqb}
+use lib.Dec.{leb, eqb}
 use lib.ListN.{length, get_or}
-use borrow.Author.Tests.{eqb-true, eqb-false, ne_eqb, lt-leb, le-leb}
+use borrow.Author.Tests.{eqb-true, ne_eqb, lt-leb, le-leb}
 use Rattle.basics.specs.Machine.{largest}
-use Rattle.basics.proofs.Cases.{on_eq, and_left, and_right}
+use Rattle.basics.proofs.Cases.{on_eq}
 use Rattle.span.proofs.Parts.{part, back, here, then}
 use Rattle.rules.specs.declared.Event.{Event}
 use Rattle.rules.specs.declared.View.{View}
-use Rattle.rules.specs.declared.Answer.TheVariants.{Accepted, Refused}
 use Rattle.rules.specs.Kinds.{bill, payment, returned_payment, fee, deposit_asked, certificate, approval, arrangement, final_notice, disconnection, closing}
 use Rattle.rules.specs.History.{is}
 use Rattle.rules.specs.Service.{is_closed}
-use Rattle.rules.specs.Range.{in_range}
-use Rattle.rules.specs.Accepted.{day_rows}
 use Rattle.rules.specs.Money.{charges, late_charge}
-use Rattle.rules.specs.Fees.{fee_of, fee_number}
-use Rattle.rules.specs.Limits.{enough, limit, most_open}
+use Rattle.rules.specs.Fees.{fee_of}
+use Rattle.rules.specs.Limits.{enough}
+use Rattle.std.proofs.Common.{Result, Ok, Err}
+use Rattle.rules.specs.declared.refusals.Refusal.{Refusal}
+use Rattle.rules.specs.declared.refusals.Refusal.TheVariants.{Closed}
+use Rattle.rules.specs.Answer.{answered}
 use Rattle.rules.specs.Table.{charge_of, credit_of, refusal_by}
 use Rattle.rules.proofs.Passed.{allowed}
 use Rattle.rules.proofs.Room.{Room, room}
-use Rattle.amounts.proofs.Equations.{charge_bill, charge_fee}
-use Rattle.table.specs.ByKind.{from_row5}
-use Rattle.table.proofs.ByKind.{of_bill}
-use Rattle.table.proofs.Equations.{passing_sum}
+use Rattle.table.specs.ByKind.{from_row5, item_rows, credit_rows}
+use Rattle.table.proofs.ByKind.{of_item}
 use Rattle.collection.specs.declared.Collection.{Collection}
 use Rattle.collection.specs.Collection.{collection_size, collection_on, collection_after, service_by, lapsed_by}
 use Rattle.collection.proofs.Words.{collection_other}
@@ -41,10 +40,9 @@ use Rattle.arrangement.specs.Arrangement.{arrangement_size, arrangement_on, arra
 use Rattle.receipts.specs.Receipts.{Receipts, receipts_size, receipts_on, receipts_after}
 use Rattle.ledger.specs.Ledger.{ledger_size, ledger_on, credits_by, arrears_by, ledger_after, LedgerRoom}
 use Rattle.ledger.proofs.Test.{ledger_room}
-use Rattle.account.specs.State.{State, sizes, account_size, state_of, state_on, Fit, view, with_money, with_file, with_service, money_after, file_after, service_after, applied}
-use Rattle.account.specs.Post.{receipt_at, Judges}
+use Rattle.account.specs.State.{State, sizes, account_size, state_of, state_on, view, with_money, with_file, with_service, money_after, file_after, service_after, applied}
+use Rattle.account.specs.Post.{receipt_at}
 use Rattle.account.specs.Looks.{Became, Applied, Free, only_item}
-use Rattle.account.proofs.Exits.{well_formed, refusal_first, refusal_view, judges_refused, judges_accepted}
 use Rattle.account.proofs.Steps.{money_by, steps_are, receipt_by}
 
 -- ---- what an event that passes has room for
@@ -68,9 +66,9 @@ either : (e : Event) → only_item e ≡ true → (e.kind ≡ bill) ⊎ (e.kind 
 either e o = on_eq e.kind bill (λ q z. inl z) (λ q z. inr (eqb-true e.kind fee (rw q at o)))
 
 -- ---- their rows
-pub payment_row : (s : State) (e : Event) → e.kind ≡ payment → cond (ltb limit (min (s.ledger.credited + e.amount) largest)) 19 0 ≡ refusal_by (view s e) e
+pub payment_row : (s : State) (e : Event) → e.kind ≡ payment → credit_rows s.ledger.credited e.amount ≡ refusal_by (view s e) e
 unfolding refusal_by view
-payment_row s e z = rw (passing_sum s.ledger.credited e.amount) (simp (z, add-zero, and-false))
+payment_row s e z = simp (z, add-zero, and-false)
 
 closed_word : (n : ℕ) → leb 2 n ≡ is_closed (service_by n)
 closed_word n =
@@ -83,26 +81,34 @@ unfolding refusal_by from_row5
 after_row4 v e (inl z) = simp (z, and-true)
 after_row4 v e (inr z) = simp (z, and-true)
 
-pub item_rows_lem : (s : State) (e : Event) (n : ℕ) → only_item e ≡ true → n ≡ min (charge_of (view s e) e) largest
-    → cond (leb 2 s.collection.service) 4
-    (cond (leb most_open (s.ledger.made - s.ledger.closed)) 18 (cond (ltb limit (min (s.ledger.charged + n) largest)) 19 0)) ≡ refusal_by (view s e) e
+pub item_row : (s : State) (e : Event) (n : ℕ) → only_item e ≡ true → n ≡ min (charge_of (view s e) e) largest
+    → cond (leb 2 s.collection.service) 4 (item_rows (s.ledger.made - s.ledger.closed) s.ledger.charged n) ≡ refusal_by (view s e) e
 unfolding view
-item_rows_lem s e n o w =
-    rw (closed_word s.collection.service, passing_sum s.ledger.charged n)
-    (ap (λ r. cond (is_closed (service_by s.collection.service)) 4 r) (of_bill (view s e) e n w (either e o)) ∙ after_row4 (view s e) e (either e o))
+item_row s e n o w =
+    rw (closed_word s.collection.service)
+    (ap (λ r. cond (is_closed (service_by s.collection.service)) 4 r) (of_item (view s e) e n w (either e o)) ∙ after_row4 (view s e) e (either e o))
+
+-- row 4 alone: it refuses, or lets pass
+pub row_err : (b : Bool) (n : ℕ) (r : Refusal) → Err r ≡ cond {A = Result (Unit {0}) Refusal} b (Err Closed) (Ok tt) → Err r ≡ answered (cond b 4 n) (tt {0})
+row_err true n r h = h
+row_err false n r h = absurd (cc)
+
+pub row_ok : (b : Bool) (u : Unit {0}) → Ok u ≡ cond {A = Result (Unit {0}) Refusal} b (Err Closed) (Ok tt) → b ≡ false
+row_ok true u h = absurd (cc)
+row_ok false u h = refl
 
 -- ---- the amount of the item
 pub bill_amount : (s : State) (e : Event) → e.kind ≡ bill → min (e.amount + late_charge (s.ledger.charged - credits_by s.ledger)) largest
     ≡ min (charge_of (view s e) e) largest
 unfolding view
-bill_amount s e z = charge_bill (view s e) e z
+bill_amount s e z = simp z (omega arith)
 
 pub fee_amount : (s : State) (e : Event) → only_item e ≡ true → (e.kind ≡ bill → ⊥) → fee_of e.option ≤ largest
     → fee_of e.option ≡ min (charge_of (view s e) e) largest
 fee_amount s e o n l =
     let z : e.kind ≡ fee = eqb-true e.kind fee (rw (ne_eqb e.kind bill n) at o) in
-    let y : fee_number e ≡ e.option = rw z in
-    sym (ap fee_of y) ∙ charge_fee (view s e) e (inl z) (rw y l)
+    let y : fee_of e.option ≡ charge_of (view s e) e = simp z (omega arith) in
+    omega (arith, y, l)
 
 -- ---- kinds below 5 concern neither the deposit nor a certificate
 low : (e : Event) (k : ℕ) → e.kind < deposit_asked → deposit_asked ≤ k → eqb e.kind k ≡ false
@@ -256,37 +262,3 @@ module _ (m : List ℕ) (e : Event) (f : Free m e) (o : only_item e ≡ true) (n
         became = way_is m (back sizes 7 ws m) c e looked (item_low e o) (item_by ws a p) d;
         receipt_is = no_receipt (state_on m) e (either e o);
       }
-
--- ---- rows 1 to 3 and the kind's own, asked together
-module _ (m : List ℕ) (e : Event) (f : Fit m) (last first n : ℕ)
-    (d : last ≡ (state_on m).last)
-    (p : first ≡ day_rows last e.day (cond (not (in_range e)) 3 0))
-    (q : n ≡ refusal_by (view (state_on m) e) e) where
-  first_is : first ≡ day_rows (state_on m).last e.day (cond (not (in_range e)) 3 0)
-  first_is = p ∙ ap (λ x. day_rows x e.day (cond (not (in_range e)) 3 0)) d
-
-  -- none refuses
-  module _ (t : (eqb first 0 && eqb n 0) ≡ true) where
-    no_first : day_rows (state_on m).last e.day (cond (not (in_range e)) 3 0) ≡ 0
-    no_first = sym first_is ∙ eqb-true first 0 (and_left (eqb first 0) (eqb n 0) t)
-
-    no_row : refusal_by (view (state_on m) e) e ≡ 0
-    no_row = sym q ∙ eqb-true n 0 (and_right (eqb first 0) (eqb n 0) t)
-
-    pub now_free : Free m e
-    now_free = record { fit = f; well = well_formed (state_on m).last e no_first; free = no_row }
-
-    pub way_judged : (r : ℕ) (k : List ℕ) → Applied m e (view (state_on m) e) k r → Judges m e (Accepted r) k
-    way_judged r k a = judges_accepted m e r k (sym (refusal_view (state_on m) e no_first) ∙ no_row) a.receipt_is a.became.state_is
-
-  -- one does: the first that does
-  pub way_refused : (r : ℕ) → r ≡ cond (eqb first 0) n first → (eqb first 0 && eqb n 0) ≡ false → Judges m e (Refused r) m
-  way_refused r g t =
-      on_eq first 0
-      (λ y z.
-      let w : r ≡ n = rw y at g in
-      let u : eqb n 0 ≡ false = rw y at t in
-      judges_refused m e r (w ∙ (q ∙ refusal_view (state_on m) e (sym first_is ∙ z))) (λ x. eqb-false n 0 u (sym w ∙ x)))
-      (λ y z.
-      let w : r ≡ first = rw y at g in
-      judges_refused m e r (w ∙ (first_is ∙ sym (refusal_first (state_on m) e (λ x. z (first_is ∙ x))))) (λ x. z (sym w ∙ x)))

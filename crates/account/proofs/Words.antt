@@ -1,10 +1,9 @@
 -- An account and its words: each is all of the other.
-use Prim.Native.Nat.{ℕ, zero, suc, ◌+◌, ◌≤◌, ◌<◌}
+use Prim.Native.Nat.{ℕ}
 use mathlib.Core.Path.{◌≡◌, refl, sym, ap, ◌∙◌}
-use mathlib.Core.List.{List, [], ◌∷◌, tail}
+use mathlib.Core.List.{List, [], ◌∷◌}
 use native.Mathlib.Omega.{arith}
-use lib.ListN.{length, take, get_or, set, replicate, length-drop}
-use lib.Seq.{take_all}
+use lib.ListN.{length, length-drop}
 use Rattle.span.specs.Span.{joined}
 use Rattle.span.proofs.Law.{whole}
 use Rattle.span.proofs.Parts.{part, part_length, joined_cut, joined_length, Sized, cut_joined}
@@ -51,16 +50,3 @@ words_length s r = omega (arith, joined_length sizes (spans_of s) 0 (sized s r))
 
 pub account_back : (s : State) → Ringed s → state_on (words_of s) ≡ s
 account_back s r = ap state_of (cut_joined sizes (spans_of s) (sized s r)) ∙ refl
-
--- ---- memory that is cleared word by word
-pub cleared : (m : List ℕ) (i : ℕ) → i < length m → take i m ≡ replicate i 0 → take (i + 1) (set m i 0) ≡ replicate (i + 1) 0
-cleared [] i h e = absurd (omega arith)
-cleared (x ∷ m) zero h e = refl
-cleared (x ∷ m) (suc i) h e =
-    let z : suc i + 1 ≡ suc (i + 1) = omega arith in
-    let first : x ≡ 0 = ap (λ l. get_or l 0 0) e in
-    let rest = cleared m i (omega arith) (ap tail e) in
-    rw z (λ j. first j ∷ rest j)
-
-pub all_cleared : (m : List ℕ) (i : ℕ) → length m ≡ account_size → account_size ≤ i → i ≤ account_size → take i m ≡ replicate i 0 → m ≡ replicate account_size 0
-all_cleared m i l h k e = let z : i ≡ account_size = omega arith in sym (take_all i m (omega arith)) ∙ (e ∙ ap (λ n. replicate n 0) z)

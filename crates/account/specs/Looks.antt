@@ -17,9 +17,9 @@ use Rattle.receipts.specs.Receipts.{payment_by}
 use Rattle.ledger.specs.Ledger.{sums_of, arrears_by}
 use Rattle.account.specs.declared.look.Debts.{Debts}
 use Rattle.account.specs.declared.look.Money.{Money}
-use Rattle.account.specs.declared.rows.Rows.{Rows}
+use Rattle.account.specs.declared.rows.Offer.{Offer}
 use Rattle.account.specs.State.{State, account_size, state_on, Fit, view, applied}
-use Rattle.account.specs.Post.{refusal_at, receipt_at}
+use Rattle.account.specs.Post.{receipt_at}
 
 -- ---- what is read
 -- what only the kinds that look at the debt look at, on day t; where it is not wanted, nothing
@@ -87,10 +87,9 @@ pub record Passing (m : List ℕ) (e : Event) (v : View) (charge : ℕ) : Type 0
   pub free : refusal_by v e ≡ 0
   pub charged : charge ≡ min (charge_of v e) largest
 
--- the rows were asked about e: the number that refuses it, and what is known where none does
-pub record Asked (m : List ℕ) (e : Event) (r : Rows) : Type 0 where
-  pub number_is : r.number ≡ refusal_at (state_on m) e
-  pub passing : r.number ≡ 0 → Passing m e r.view r.charge
+-- what the rows look at when e is offered, and what it charges
+abbrev pub offer_of : State → Event → Offer
+offer_of s e = record { view = seen_of (view s e) e; charge = min (charge_of (seen_of (view s e) e) e) largest }
 
 -- e was applied: the account afterwards, and the receipt
 pub record Applied (m : List ℕ) (e : Event) (v : View) (k : List ℕ) (r : ℕ) : Type 0 where

@@ -1,9 +1,9 @@
 -- Many accounts in one memory, one after another.
-use Rattle.std.specs.Prelude.{ℕ, ◌+◌, ◌*◌, ◌≡◌, Bool, cond, List, leb, length, take, drop}
+use Rattle.std.specs.Prelude.{ℕ, ◌+◌, ◌*◌, ◌≡◌, Bool, cond, List, leb, length, take, drop, Err}
 use Rattle.span.specs.Span.{put}
 use Rattle.rules.specs.declared.Event.{Event}
-use Rattle.rules.specs.declared.Answer.{Answer}
-use Rattle.rules.specs.declared.Answer.TheVariants.{Refused}
+use Rattle.rules.specs.declared.refusals.Refusal.TheVariants.{NoAccount}
+use Rattle.rules.specs.Answer.{Answer}
 use Rattle.account.specs.State.{account_size}
 use Rattle.account.specs.Post.{answer_to, words_after}
 
@@ -17,7 +17,7 @@ has_account i all = leb (i * account_size + account_size) (length all)
 
 -- the answer to e posted on account i: that of a posting on it alone; where there is no account i, refused with 0
 abbrev pub answer_at_of : ℕ → List ℕ → Event → Answer
-answer_at_of i all e = cond (has_account i all) (answer_to (account_at i all) e) (Refused 0)
+answer_at_of i all e = cond (has_account i all) (answer_to (account_at i all) e) (Err NoAccount)
 
 -- every word afterwards: those of account i as a posting on it alone leaves them, all others as they were
 abbrev pub words_at_after : ℕ → List ℕ → Event → List ℕ

@@ -1,12 +1,12 @@
 -- Posting one event to an account: the answer, and every word of the account afterwards.
-use Rattle.std.specs.Prelude.{ℕ, ◌+◌, ◌≡◌, cond, not, List, eqb}
+use Rattle.std.specs.Prelude.{ℕ, ◌+◌, ◌≡◌, cond, not, List, eqb, Err}
 use Rattle.rules.specs.declared.Event.{Event}
-use Rattle.rules.specs.declared.Answer.{Answer}
-use Rattle.rules.specs.declared.Answer.TheVariants.{Accepted, Refused}
+use Rattle.rules.specs.declared.refusals.Refusal.TheVariants.{NoAccount}
 use Rattle.rules.specs.Kinds.{payment}
 use Rattle.rules.specs.History.{is}
 use Rattle.rules.specs.Range.{in_range}
 use Rattle.rules.specs.Table.{refusal_by}
+use Rattle.rules.specs.Answer.{Answer, answered}
 use Rattle.rules.specs.Accepted.{day_rows}
 use Rattle.account.specs.declared.Account.{Account}
 use Rattle.account.specs.declared.Posted.{Posted}
@@ -22,7 +22,7 @@ abbrev pub receipt_at : State → Event → ℕ
 receipt_at s e = cond (is payment e) (s.receipts.count + 1) 0
 
 unfoldable pub answer_at : State → Event → Answer
-answer_at s e = cond (eqb (refusal_at s e) 0) (Accepted (receipt_at s e)) (Refused (refusal_at s e))
+answer_at s e = answered (refusal_at s e) (receipt_at s e)
 
 -- refused: the account stays as it was
 unfoldable pub state_after : State → Event → State
@@ -30,7 +30,7 @@ state_after s e = cond (eqb (refusal_at s e) 0) (applied s e (view s e)) s
 
 -- ---- memory: what is no account is refused with 0, a number that the table does not have, and stays as it was
 unfoldable pub answer_to : List ℕ → Event → Answer
-answer_to m e = cond (passes m) (answer_at (state_on m) e) (Refused 0)
+answer_to m e = cond (passes m) (answer_at (state_on m) e) (Err NoAccount)
 
 unfoldable pub words_after : List ℕ → Event → List ℕ
 words_after m e = cond (passes m) (words_of (state_after (state_on m) e)) m

@@ -10,11 +10,12 @@ mod step;
 mod ways;
 mod would;
 
-ghost use Rattle.std.specs.Prelude.{◌≡◌, length, replicate};
+ghost use Rattle.std.specs.Prelude.{◌≡◌, length};
 ghost use Rattle.account.specs.State.{account_size, fresh_words, Fit, passes as is_account};
 ghost use Rattle.account.specs.Post.{Judges, Leaves, posted};
 
 use rules::kinds::Kind;
+use rules::refusals::Refusal;
 use rules::{Answer, Event};
 pub use spans::WORDS;
 use spans::{LAYOUT, LAYOUT_NUMBER};
@@ -34,24 +35,11 @@ pub struct Posted {
 }
 
 // Whether memory is an account.
+#[tactic(auto, unfolding(crate::specs::State::passes))]
 pub fn passes(m: &[u64]) -> bool
     ensures { result ≡ is_account m.now }
 {
-    if m.len() == WORDS {
-        return look::ok(m);
-    }
-    false
-}
-
-fn wipe(m: &mut [u64])
-    requires { length m.old ≡ account_size }
-    ensures { m.new ≡ replicate account_size 0 }
-{
-    let mut i: usize = 0;
-    while i < WORDS {
-        m[i] = 0;
-        i += 1;
-    }
+    m.len() == WORDS && look::ok(m)
 }
 
 // Memory with the words of an account becomes a fresh one: no events, service on, all sums 0.
@@ -59,7 +47,7 @@ pub fn clear(m: &mut [u64])
     requires { length m.old ≡ account_size }
     ensures { m.new ≡ fresh_words }
 {
-    wipe(m);
+    m.fill(0);
     m[LAYOUT] = LAYOUT_NUMBER;
 }
 
@@ -68,12 +56,8 @@ fn judge_any(m: &mut [u64], e: Event) -> Answer
     requires { Fit m.old }
     ensures { Judges m.old e result m.new }
 {
-    let r = rows::ask(m, e);
-    if r.number == 0 {
-        let receipt = step::apply(m, e, r.view, r.charge);
-        return Answer::Accepted(receipt);
-    }
-    Answer::Refused(r.number)
+    let offer = rows::ask(m, e)?;
+    Ok(step::apply(m, e, offer.view, offer.charge))
 }
 
 // One event judged by the table, in memory that is known to be an account. What is refused changes nothing.
@@ -82,12 +66,12 @@ pub fn judge(m: &mut [u64], e: Event) -> Answer
     ensures { Judges m.old e result m.new }
 {
     if e.is(Kind::Payment) {
-        return ways::payment(m, e);
+        ways::payment(m, e)
+    } else if e.is(Kind::Bill) | e.is(Kind::Fee) {
+        ways::item(m, e)
+    } else {
+        judge_any(m, e)
     }
-    if e.is(Kind::Bill) | e.is(Kind::Fee) {
-        return ways::item(m, e);
-    }
-    judge_any(m, e)
 }
 
 // One event posted in any memory. What is no account is refused with 0, and stays as it was.
@@ -95,9 +79,10 @@ pub fn post(m: &mut [u64], e: Event) -> Answer
     ensures { Leaves m.old e result m.new }
 {
     if passes(m) {
-        return judge(m, e);
+        judge(m, e)
+    } else {
+        Err(Refusal::NoAccount)
     }
-    Answer::Refused(0)
 }
 
 impl Account {

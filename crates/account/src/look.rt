@@ -10,11 +10,15 @@ ghost use Rattle.account.specs.Looks.{debts_on, debts_for, money_for, view_from}
 use crate::spans::{
     ARRANGEMENT, COLLECTION, DEPOSIT, LAST, LAYOUT, LAYOUT_NUMBER, LEDGER, MEDICAL, RECEIPTS, WORDS,
 };
+use arrangement::Arrangement;
+use collection::Collection;
 use deposit::Deposit;
 use ledger::Sums;
+use medical::Medical;
 use rules::kinds::Kind;
 use rules::limits::FINAL_DAY;
 use rules::{Event, Service, View};
+use span::Part;
 
 // What only the kinds that look at the debt look at, on an event's day.
 #[derive(Clone, Copy)]
@@ -52,9 +56,9 @@ fn debts_on(m: &[u64], t: u64) -> Debts
     requires { Fit m.now }
     ensures { result ≡ debts_on (state_on m.now) t }
 {
-    let c = collection::load(&m[COLLECTION..DEPOSIT]);
-    let p = medical::load(&m[MEDICAL..ARRANGEMENT]);
-    let a = arrangement::load(&m[ARRANGEMENT..RECEIPTS]);
+    let c = Collection::load(&m[COLLECTION..DEPOSIT]);
+    let p = Medical::load(&m[MEDICAL..ARRANGEMENT]);
+    let a = Arrangement::load(&m[ARRANGEMENT..RECEIPTS]);
     let arrears = ledger::arrears(&m[LEDGER..WORDS], t);
     Debts {
         arrears,
@@ -73,18 +77,16 @@ fn debts_for(m: &[u64], e: Event) -> Debts
     ensures { result ≡ debts_for (state_on m.now) e }
 {
     if table::looks_at_debt(e) {
-        return debts_on(m, basics::wide(e.day));
+        debts_on(m, u64::from(e.day))
+    } else {
+        NO_DEBTS
     }
-    NO_DEBTS
 }
 
 fn earned_for(d: Deposit, e: Event) -> bool
     ensures { result ≡ (is deposit_moved e && earned_by d e.day) }
 {
-    if e.is(Kind::DepositMoved) {
-        return d.earned(basics::wide(e.day));
-    }
-    false
+    e.is(Kind::DepositMoved) && d.earned(u64::from(e.day))
 }
 
 fn money_for(m: &[u64], e: Event) -> Money
@@ -93,7 +95,7 @@ fn money_for(m: &[u64], e: Event) -> Money
 {
     let sums = ledger::sums_of(&m[LEDGER..WORDS]);
     let payment = receipts::named(&m[RECEIPTS..LEDGER], e);
-    let d = deposit::load(&m[DEPOSIT..MEDICAL]);
+    let d = Deposit::load(&m[DEPOSIT..MEDICAL]);
     Money {
         sums,
         payment,
@@ -132,7 +134,7 @@ pub fn seen(m: &[u64], e: Event) -> View
     requires { Fit m.now }
     ensures { result ≡ seen_of (view (state_on m.now) e) e }
 {
-    let c = collection::load(&m[COLLECTION..DEPOSIT]);
+    let c = Collection::load(&m[COLLECTION..DEPOSIT]);
     let d = debts_for(m, e);
     let n = money_for(m, e);
     view_of(c.service(), d, n)
@@ -143,7 +145,7 @@ fn money_ok(m: &[u64]) -> bool
     requires { length m.now ≡ account_size }
     ensures { result ≡ money_ok (state_on m.now) }
 {
-    let a = arrangement::load(&m[ARRANGEMENT..RECEIPTS]);
+    let a = Arrangement::load(&m[ARRANGEMENT..RECEIPTS]);
     let r = receipts::ok(&m[RECEIPTS..LEDGER]);
     let l = ledger::ok(&m[LEDGER..WORDS]);
     a.ok() & r & l
@@ -153,25 +155,20 @@ fn file_ok(m: &[u64]) -> bool
     requires { length m.now ≡ account_size }
     ensures { result ≡ (file_ok (state_on m.now) && money_ok (state_on m.now)) }
 {
-    let d = deposit::load(&m[DEPOSIT..MEDICAL]);
-    let p = medical::load(&m[MEDICAL..ARRANGEMENT]);
-    if d.ok() & p.ok() {
-        return money_ok(m);
-    }
-    false
+    let d = Deposit::load(&m[DEPOSIT..MEDICAL]);
+    let p = Medical::load(&m[MEDICAL..ARRANGEMENT]);
+    d.ok() && p.ok() && money_ok(m)
 }
 
 // The test that each account reached from a fresh one passes: it is of this layout, and each part passes its own. It goes part by
 // part, so that few numbers are held at a time.
+#[tactic(auto, unfolding(crate::specs::State::state_ok))]
 pub fn ok(m: &[u64]) -> bool
     requires { length m.now ≡ account_size }
     ensures { result ≡ state_ok (state_on m.now) }
 {
     let layout = span::word(&m[LAYOUT..LAST]);
     let last = span::word(&m[LAST..COLLECTION]);
-    let c = collection::load(&m[COLLECTION..DEPOSIT]);
-    if (layout == LAYOUT_NUMBER) & (last <= FINAL_DAY) & c.ok() {
-        return file_ok(m);
-    }
-    false
+    let c = Collection::load(&m[COLLECTION..DEPOSIT]);
+    layout == LAYOUT_NUMBER && last <= FINAL_DAY && c.ok() && file_ok(m)
 }

@@ -2,6 +2,7 @@
 ghost use Rattle.account.specs.Many.{LeavesAt};
 
 use crate::{WORDS, post};
+use rules::refusals::Refusal;
 use rules::{Answer, Event};
 
 pub fn post_at(all: &mut [u64], i: usize, e: Event) -> Answer
@@ -11,7 +12,8 @@ pub fn post_at(all: &mut [u64], i: usize, e: Event) -> Answer
     if i < n {
         let at = i * WORDS;
         let end = at + WORDS;
-        return post(&mut all[at..end], e);
+        post(&mut all[at..end], e)
+    } else {
+        Err(Refusal::NoAccount)
     }
-    Answer::Refused(0)
 }

@@ -1,32 +1,30 @@
 // The rows of the table, asked about an event in memory that is known to be an account, which is left alone.
-ghost use Rattle.account.specs.State.{Fit};
-ghost use Rattle.account.specs.Looks.{Asked};
+ghost use Rattle.std.specs.Prelude.{◌≡◌};
+ghost use Rattle.rules.specs.Answer.{answered};
+ghost use Rattle.account.specs.State.{state_on, Fit};
+ghost use Rattle.account.specs.Post.{refusal_at};
+ghost use Rattle.account.specs.Looks.{offer_of};
 
 use crate::look;
 use crate::spans::{COLLECTION, LAST};
+use rules::refusals::Refusal;
 use rules::{Event, View};
 
-// The number of the first row that refuses the event, 0 where none does; what the rows looked at, and what the event charges.
+// An event that no row refuses: what the rows looked at, and what the event charges.
 #[derive(Clone, Copy)]
-pub struct Rows {
-    pub number: u8,
+pub struct Offer {
     pub view: View,
     pub charge: u64,
 }
 
-// Rows 1 to 3 come first: what the others say counts only where those let the event pass.
-pub fn ask(m: &[u64], e: Event) -> Rows
+// Rows 1 to 3 come first: what the others look at is read only where those let the event pass.
+pub fn ask(m: &[u64], e: Event) -> Result<Offer, Refusal>
     requires { Fit m.now }
-    ensures { Asked m.now e result }
+    ensures { result ≡ answered (refusal_at (state_on m.now) e) (offer_of (state_on m.now) e) }
 {
-    let last = span::word(&m[LAST..COLLECTION]);
-    let first = range::first_row(last, e);
+    range::check_event(span::word(&m[LAST..COLLECTION]), e)?;
     let view = look::seen(m, e);
     let charge = amounts::charge(view, e);
-    let rest = table::refusal(view, e, charge);
-    Rows {
-        number: basics::select8(first == 0, rest, first),
-        view,
-        charge,
-    }
+    table::check(view, e, charge)?;
+    Ok(Offer { view, charge })
 }

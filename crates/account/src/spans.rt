@@ -1,5 +1,11 @@
 // Where each part of an account begins: the parts lie one after another, each in a span of its own.
 
+use arrangement::Arrangement;
+use collection::Collection;
+use deposit::Deposit;
+use medical::Medical;
+use span::Part;
+
 // the number of the layout, by which memory of another version is told
 pub const LAYOUT: usize = 0;
 
@@ -8,13 +14,13 @@ pub const LAST: usize = 1;
 
 pub const COLLECTION: usize = 2;
 
-pub const DEPOSIT: usize = COLLECTION + collection::WORDS;
+pub const DEPOSIT: usize = COLLECTION + Collection::WORDS;
 
-pub const MEDICAL: usize = DEPOSIT + deposit::WORDS;
+pub const MEDICAL: usize = DEPOSIT + Deposit::WORDS;
 
-pub const ARRANGEMENT: usize = MEDICAL + medical::WORDS;
+pub const ARRANGEMENT: usize = MEDICAL + Medical::WORDS;
 
-pub const RECEIPTS: usize = ARRANGEMENT + arrangement::WORDS;
+pub const RECEIPTS: usize = ARRANGEMENT + Arrangement::WORDS;
 
 pub const LEDGER: usize = RECEIPTS + receipts::WORDS;
 

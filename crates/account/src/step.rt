@@ -35,7 +35,7 @@ fn set_service(m: &mut [u64], e: Event)
     requires { (length m.old ≡ account_size) × WellFormed e }
     ensures { Became m.new (service_after (state_on m.old) e) }
 {
-    let t = basics::wide(e.day);
+    let t = u64::from(e.day);
     let watched = collection::watches(&m[COLLECTION..DEPOSIT], e);
     let due = ledger::arrears_where(&m[LEDGER..WORDS], t, watched);
     collection::step(&mut m[COLLECTION..DEPOSIT], e, due);
@@ -51,5 +51,5 @@ pub fn apply(m: &mut [u64], e: Event, v: View, charge: u64) -> u64
     keep_file(m, e);
     set_service(m, e);
     let n = receipts::count(&m[RECEIPTS..LEDGER]);
-    basics::select64(e.is(Kind::Payment), n, 0)
+    if e.is(Kind::Payment) { n } else { 0 }
 }

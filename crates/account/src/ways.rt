@@ -3,23 +3,25 @@
 ghost use Rattle.std.specs.Prelude.{◌≡◌, true, ◌<◌, min, length};
 ghost use Rattle.basics.specs.Machine.{largest};
 ghost use Rattle.rules.specs.Kinds.{payment, deposit_asked};
+ghost use Rattle.rules.specs.Answer.{answered};
 ghost use Rattle.rules.specs.Table.{charge_of, refusal_by};
 ghost use Rattle.account.specs.State.{account_size, state_on, Fit, view, money_after, service_after};
 ghost use Rattle.account.specs.Post.{Judges};
 ghost use Rattle.account.specs.Looks.{Became, Applied, Free, only_item};
 
 use crate::spans::{ARRANGEMENT, COLLECTION, DEPOSIT, LAST, LEDGER, RECEIPTS, WORDS};
-use collection::CLOSED;
+use collection::{CLOSED, Collection};
 use rules::kinds::Kind;
-use rules::limits::{LIMIT, MOST_OPEN};
+use rules::refusals::Refusal;
 use rules::{Answer, Event};
+use span::Part;
 
 // The day, and the notice, which can only lapse. The arrears are worked out only where there is one.
 fn pass_day(m: &mut [u64], e: Event)
     requires { (length m.old ≡ account_size) × (e.kind < deposit_asked) }
     ensures { Became m.new (service_after (state_on m.old) e) }
 {
-    let t = basics::wide(e.day);
+    let t = u64::from(e.day);
     span::store_word(&mut m[LAST..COLLECTION], t);
     if collection::quiet(&m[COLLECTION..DEPOSIT]) {
         return;
@@ -30,12 +32,11 @@ fn pass_day(m: &mut [u64], e: Event)
 
 // ---- payments
 // 19: payments plus deposits moved would pass the limit.
-fn credit_row(m: &[u64], e: Event) -> u8
+fn check_credit(m: &[u64], e: Event) -> Result<(), Refusal>
     requires { (length m.now ≡ account_size) × (e.kind ≡ payment) }
-    ensures { result ≡ refusal_by (view (state_on m.now) e) e }
+    ensures { result ≡ answered (refusal_by (view (state_on m.now) e) e) tt }
 {
-    let s = ledger::sums_of(&m[LEDGER..WORDS]);
-    basics::select8(LIMIT < basics::plus(s.credited, e.amount), 19, 0)
+    table::arms::credit_rows(ledger::sums_of(&m[LEDGER..WORDS]).credited, e.amount)
 }
 
 // The money of a payment.
@@ -62,14 +63,9 @@ pub fn payment(m: &mut [u64], e: Event) -> Answer
     requires { Fit m.old × (e.kind ≡ payment) }
     ensures { Judges m.old e result m.new }
 {
-    let last = span::word(&m[LAST..COLLECTION]);
-    let first = range::first_row(last, e);
-    let n = credit_row(m, e);
-    if (first == 0) & (n == 0) {
-        let receipt = pay(m, e);
-        return Answer::Accepted(receipt);
-    }
-    Answer::Refused(basics::select8(first == 0, n, first))
+    range::check_event(span::word(&m[LAST..COLLECTION]), e)?;
+    check_credit(m, e)?;
+    Ok(pay(m, e))
 }
 
 // ---- bills and fees
@@ -80,22 +76,22 @@ fn amount_of(m: &[u64], e: Event) -> u64
 {
     if e.is(Kind::Bill) {
         let s = ledger::sums_of(&m[LEDGER..WORDS]);
-        let late = amounts::late_charge(basics::minus_or_zero(s.charged, s.credits));
-        return basics::plus(e.amount, late);
+        let late = amounts::late_charge(s.charged.saturating_sub(s.credits));
+        e.amount.saturating_add(late)
+    } else {
+        amounts::fee(u64::from(e.option))
     }
-    amounts::fee(e.option as u64)
 }
 
 // 4: closed; 18: the places of open items are taken; 19: the charges would pass the limit.
-fn item_row(m: &[u64], e: Event, charge: u64) -> u8
+fn check_item(m: &[u64], e: Event, charge: u64) -> Result<(), Refusal>
     requires { (length m.now ≡ account_size) × (only_item e ≡ true) × (charge ≡ min (charge_of (view (state_on m.now) e) e) largest) }
-    ensures { result ≡ refusal_by (view (state_on m.now) e) e }
+    ensures { result ≡ answered (refusal_by (view (state_on m.now) e) e) tt }
 {
-    let c = collection::load(&m[COLLECTION..DEPOSIT]);
+    let c = Collection::load(&m[COLLECTION..DEPOSIT]);
+    Refusal::Closed.when(CLOSED <= c.service)?;
     let s = ledger::sums_of(&m[LEDGER..WORDS]);
-    let n19 = basics::select8(LIMIT < basics::plus(s.charged, charge), 19, 0);
-    let n18 = basics::select8(MOST_OPEN <= s.open_count, 18, n19);
-    basics::select8(CLOSED <= c.service, 4, n18)
+    table::arms::item_rows(s.open_count, s.charged, charge)
 }
 
 // A bill or a fee that passes.
@@ -111,13 +107,9 @@ pub fn item(m: &mut [u64], e: Event) -> Answer
     requires { Fit m.old × (only_item e ≡ true) }
     ensures { Judges m.old e result m.new }
 {
-    let last = span::word(&m[LAST..COLLECTION]);
-    let first = range::first_row(last, e);
+    range::check_event(span::word(&m[LAST..COLLECTION]), e)?;
     let charge = amount_of(m, e);
-    let n = item_row(m, e, charge);
-    if (first == 0) & (n == 0) {
-        charge_item(m, e, charge);
-        return Answer::Accepted(0);
-    }
-    Answer::Refused(basics::select8(first == 0, n, first))
+    check_item(m, e, charge)?;
+    charge_item(m, e, charge);
+    Ok(0)
 }

@@ -6,6 +6,7 @@ ghost use Rattle.account.specs.Post.{receipt_at, answer_at, answer_to};
 use crate::spans::{LEDGER, RECEIPTS};
 use crate::{passes, rows};
 use rules::kinds::Kind;
+use rules::refusals::Refusal;
 use rules::{Answer, Event};
 
 // The receipt that the event takes where it is accepted, 0 where it is no payment.
@@ -14,7 +15,7 @@ fn receipt(m: &[u64], e: Event) -> u64
     ensures { result ≡ receipt_at (state_on m.now) e }
 {
     let n = receipts::count(&m[RECEIPTS..LEDGER]);
-    basics::select64(e.is(Kind::Payment), n + 1, 0)
+    if e.is(Kind::Payment) { n + 1 } else { 0 }
 }
 
 // In memory that is known to be an account.
@@ -22,11 +23,8 @@ fn answer(m: &[u64], e: Event) -> Answer
     requires { Fit m.now }
     ensures { result ≡ answer_at (state_on m.now) e }
 {
-    let r = rows::ask(m, e);
-    if r.number == 0 {
-        return Answer::Accepted(receipt(m, e));
-    }
-    Answer::Refused(r.number)
+    rows::ask(m, e)?;
+    Ok(receipt(m, e))
 }
 
 // In any memory: the answer that posting the event would give.
@@ -34,7 +32,8 @@ pub fn would_answer(m: &[u64], e: Event) -> Answer
     ensures { result ≡ answer_to m.now e }
 {
     if passes(m) {
-        return answer(m, e);
+        answer(m, e)
+    } else {
+        Err(Refusal::NoAccount)
     }
-    Answer::Refused(0)
 }

@@ -1,5 +1,5 @@
 -- Every number that the table gives is that of a refusal, so that an answer tells it.
-use Rattle.std.proofs.Common.{ℕ, zero, suc, ◌+◌, ◌<◌, ◌≡◌, Bool, true, cond, not, ◌&&◌, List, [], ◌∷◌, length, get_or, eqb, ltb, refl, sym, arith}
+use Rattle.std.proofs.Common.{Ok, Err, ℕ, zero, suc, ◌+◌, ◌<◌, ◌≡◌, Bool, true, false, cond, not, ◌&&◌, List, [], ◌∷◌, length, get_or, eqb, ltb, refl, sym, arith}
 use borrow.Author.Tests.{eqb-true, ltb-true}
 use Rattle.basics.proofs.Cases.{on, and_left, and_right}
 use Rattle.basics.specs.Lists.{every}
@@ -61,3 +61,17 @@ pub rows_in_table : (last : ℕ) (v : View) (e : Event) → day_rows last e.day 
 rows_in_table last v e =
     day_rows_in_table last e.day _
     (on (in_range e) (λ q. rw q (refusal_in_table v e)) (λ q. rw q (omega arith)))
+
+-- ---- what an answer by a number tells of it
+pub answered_ok : {A : Type 0} (n : ℕ) (x y : A) → Ok x ≡ answered n y → (n ≡ 0) × (x ≡ y)
+answered_ok n x y e =
+    on (eqb n 0)
+    (λ q. let f : Ok x ≡ Ok y = rw q at e in (eqb-true n 0 q, cc))
+    (λ q. let f : Ok x ≡ Err (refusal_of n) = rw q at e in absurd (cc))
+
+-- refused by the same number, whatever would have been answered
+pub answered_err : {A B : Type 0} (n : ℕ) (r : Refusal) (y : A) (z : B) → Err r ≡ answered n y → (eqb n 0 ≡ false) × (Err r ≡ answered n z)
+answered_err n r y z e =
+    on (eqb n 0)
+    (λ q. let f : Err r ≡ Ok y = rw q at e in absurd (cc))
+    (λ q. let f : Err r ≡ Err (refusal_of n) = rw q at e in let g : r ≡ refusal_of n = cc in (q, rw q (rw g refl)))

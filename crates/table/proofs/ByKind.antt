@@ -1,5 +1,7 @@
--- No row from 5 on concerns a kind that is not known.
+-- The rows from 5 on of a kind that is not known, none; and of a bill or a fee.
 use Rattle.std.proofs.Common.{ℕ, ◌≤◌, ◌≡◌, true, false, eqb, arith}
+use Rattle.std.proofs.Common.{min, inl, inr, ◌⊎◌}
+use mathlib.Core.Bool.{or-false}
 use borrow.Author.Tests.{ne_eqb, le-leb}
 use Rattle.rules.specs.declared.Event.{Event}
 use Rattle.rules.specs.declared.View.{View}
@@ -20,7 +22,10 @@ use Rattle.rules.specs.Kinds.{
   reconnection,
   closing,
 }
-use Rattle.table.specs.ByKind.{from_row5}
+use Rattle.rules.specs.Table.{charge_of}
+use Rattle.basics.specs.Machine.{largest}
+use Rattle.table.specs.ByKind.{from_row5, item_rows}
+use Rattle.table.proofs.Equations.{passing}
 
 -- it is none of the sixteen
 other : (n k : ℕ) → is_kind n ≡ false → bill ≤ k → k ≤ closing → eqb n k ≡ false
@@ -46,3 +51,9 @@ of_unknown v e f =
       is_not reconnection (omega arith) (omega arith),
       is_not closing (omega arith) (omega arith),
     )
+
+pub of_item : (v : View) (e : Event) (charge : ℕ) → charge ≡ min (charge_of v e) largest → (e.kind ≡ bill) ⊎ (e.kind ≡ fee)
+    → item_rows v.open_count v.charged charge ≡ from_row5 v e
+unfolding from_row5
+of_item v e charge w (inl z) = rw (w, passing v.charged (charge_of v e)) (simp (z, or-false))
+of_item v e charge w (inr z) = rw (w, passing v.charged (charge_of v e)) (simp (z, or-false))

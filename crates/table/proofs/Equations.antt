@@ -11,10 +11,6 @@ use Rattle.rules.specs.Limits.{limit}
 same_test : (x y : ℕ) → (limit < x → limit < y) → (x ≤ limit → y ≤ limit) → ltb limit x ≡ ltb limit y
 same_test x y f g = on_lt limit x (λ q l. q ∙ sym (lt-ltb limit y (f l))) (λ q l. q ∙ sym (le-ltb limit y (g l)))
 
--- a sum that stops at the largest number passes the limit where the sum does
-pub passing_sum : (a b : ℕ) → ltb limit (min (a + b) largest) ≡ ltb limit (a + b)
-passing_sum a b = same_test (min (a + b) largest) (a + b) (λ l. omega arith) (λ l. omega arith)
-
--- and so does a sum with an amount that stops there
+-- a sum with an amount that stops at the largest number passes the limit where the sum does
 pub passing : (a b : ℕ) → ltb limit (a + min b largest) ≡ ltb limit (a + b)
 passing a b = same_test (a + min b largest) (a + b) (λ l. omega arith) (λ l. omega arith)

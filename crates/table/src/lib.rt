@@ -2,7 +2,7 @@
 // Every function takes any View and any Event, and its contract is an equation with the rules' definition.
 #![tactic(auto)]
 
-mod arms;
+pub mod arms;
 
 ghost use Rattle.std.specs.Prelude.{◌≡◌, min};
 ghost use Rattle.basics.specs.Machine.{largest};

@@ -1,4 +1,6 @@
-use mathlib.Core.Path.{◌∙◌}
+use Rattle.std.proofs.Common.{◌≡◌, cond, sym, ◌∙◌}
+use Rattle.rules.specs.Kinds.{payment}
+use Rattle.rules.specs.History.{is}
 use Rattle.account.proofs.Steps.{deposit_still, steps_are, receipt_by}
 use Rattle.account.proofs.step.apply.Goals as goal
 
@@ -11,13 +13,20 @@ keep_file-requires c =
       s.requires.well,
     )
 
-pub returns : goal.returns
-returns c =
+pub returns-then-is : goal.returns-then-is
+returns-then-is c =
     let a = c.args in
     let b = steps_are a.m.now c.move_money.new.m c.keep_file.new.m c.set_service.new.m a.e a.v c.move_money.ensures
     c.keep_file.ensures c.set_service.ensures in
-    record {
-      became = b;
-      receipt_is = c.select64.ensures
-          ∙ receipt_by a.m.now c.set_service.new.m a.e a.v c.count-n.result b c.count-n.ensures;
-    }
+    let q = sym c.is.ensures ∙ c.if-is.true in
+    let r = receipt_by a.m.now c.set_service.new.m a.e a.v c.count-n.result b c.count-n.ensures in
+    let y : cond (is payment a.e) c.count-n.result 0 ≡ c.count-n.result = rw q in
+    record { became = b; receipt_is = sym y ∙ r }
+
+pub returns-else-is : goal.returns-else-is
+returns-else-is c =
+    let a = c.args in
+    let b = steps_are a.m.now c.move_money.new.m c.keep_file.new.m c.set_service.new.m a.e a.v c.move_money.ensures
+    c.keep_file.ensures c.set_service.ensures in
+    let q = sym c.is.ensures ∙ c.if-is.false in
+    record { became = b; receipt_is = rw q }

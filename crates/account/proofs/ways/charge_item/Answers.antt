@@ -1,19 +1,11 @@
-use Rattle.account.proofs.OwnWays.{item_low, item_ledger, item_applied}
+use Rattle.account.proofs.OwnWays.{item_ledger, item_applied}
 use borrow.Author.Rules.{rules}
 use Rattle.account.proofs.ways.charge_item.Goals as goal
 
-pub step-requires : goal.step-requires
-step-requires c =
+pub step-requires-clause-ledger_room : goal.step-requires-clause-ledger_room
+step-requires-clause-ledger_room c =
     let a = c.args in
-    record {
-      w_len = search rules;
-      ledger_fit = c.requires.0.fit.fit.ledger_fit;
-      ledger_room = item_ledger a.m.now a.e c.requires.0 c.requires.1 a.charge c.requires.2;
-    }
-
-pub pass_day-requires : goal.pass_day-requires
-pass_day-requires c =
-    (search rules, item_low c.args.e c.requires.1)
+    item_ledger a.m.now a.e c.requires.0 c.requires.1 a.charge c.requires.2
 
 pub returns : goal.returns
 returns c =

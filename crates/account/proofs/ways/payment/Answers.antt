@@ -1,15 +1,34 @@
-use Rattle.account.proofs.OwnWays.{now_free, way_judged, way_refused}
+use Rattle.std.proofs.Common.{refl}
+use Rattle.std.proofs.lemmas.Result.{err_from_is_err_and}
+use Rattle.account.specs.State.{state_on, view}
+use Rattle.account.specs.Post.{receipt_at}
+use Rattle.account.proofs.Exits.{refused_first, refused_rest, passed_rest, free_of, judges_refused, judges_accepted}
 use Rattle.account.proofs.ways.payment.Goals as goal
 
-pub pay-receipt-requires : goal.pay-receipt-requires
-pay-receipt-requires c =
-    (now_free _ _ c.requires.0 _ _ _ c.word-last.ensures c.first_row-first.ensures c.credit_row-n.ensures c.if-first-n.true, c.requires.1)
+pub returns-in_err-check_event : goal.returns-in_err-check_event
+returns-in_err-check_event c =
+    let p = err_from_is_err_and c.from_residual.result c.from_residual.ensures.1 in
+    let a = c.args in
+    rw (p.1, p.2) (judges_refused a.m.now a.e _ (receipt_at (state_on a.m.now) a.e) (refused_first (state_on a.m.now) a.e _ _ (rw c.word.ensures at c.in_err-check_event.ensures)))
 
-pub returns-then-first-n : goal.returns-then-first-n
-returns-then-first-n c =
-    way_judged _ _ c.requires.0 _ _ _ c.word-last.ensures c.first_row-first.ensures c.credit_row-n.ensures c.if-first-n.true _ _
-    c.pay-receipt.ensures
+pub returns-in_err-check_credit : goal.returns-in_err-check_credit
+returns-in_err-check_credit c =
+    let p = err_from_is_err_and c.from_residual-in_err-check_credit.result c.from_residual-in_err-check_credit.ensures.1 in
+    let a = c.args in
+    let s = state_on a.m.now in
+    let first = rw c.word.ensures at c.in_ok-check_event.ensures in
+    rw (p.1, p.2) (judges_refused a.m.now a.e _ (receipt_at (state_on a.m.now) a.e) (refused_rest s a.e (view s a.e) _ _ first refl c.in_err-check_credit.ensures))
+
+pub pay-requires : goal.pay-requires
+pay-requires c =
+    let a = c.args in
+    let s = state_on a.m.now in
+    let first = rw c.word.ensures at c.in_ok-check_event.ensures in
+    (free_of a.m.now a.e c.requires.0 (passed_rest s a.e (view s a.e) first refl c.in_ok-check_credit.ensures), c.requires.1)
 
 pub returns : goal.returns
 returns c =
-    way_refused _ _ c.requires.0 _ _ _ c.word-last.ensures c.first_row-first.ensures c.credit_row-n.ensures _ c.select8.ensures c.if-first-n.false
+    let a = c.args in
+    let s = state_on a.m.now in
+    let first = rw c.word.ensures at c.in_ok-check_event.ensures in
+    judges_accepted a.m.now a.e _ c.pay.new.m (passed_rest s a.e (view s a.e) first refl c.in_ok-check_credit.ensures) c.pay.ensures

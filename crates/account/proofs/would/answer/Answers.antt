@@ -1,13 +1,22 @@
-use mathlib.Core.Path.{sym, ◌∙◌}
+use Rattle.std.proofs.lemmas.Result.{err_from_is_err_and}
+use Rattle.rules.proofs.Numbered.{answered_ok, answered_err}
 use Rattle.account.specs.State.{state_on}
-use Rattle.account.proofs.Exits.{answer_refused, answer_accepted}
+use Rattle.account.specs.Post.{refusal_at, receipt_at, answer_at}
+use Rattle.account.specs.Looks.{offer_of}
 use Rattle.account.proofs.would.answer.Goals as goal
 
-pub returns-then-r-eq0 : goal.returns-then-r-eq0
-returns-then-r-eq0 c =
-    answer_accepted (state_on c.args.m.now) c.args.e c.receipt.result (sym c.ask-r.ensures.number_is ∙ c.if-r-eq0.true)
-    c.receipt.ensures
+pub returns-in_err-ask : goal.returns-in_err-ask
+unfolding answer_at
+returns-in_err-ask c =
+    let p = err_from_is_err_and c.from_residual.result c.from_residual.ensures.1 in
+    let s = state_on c.args.m.now in
+    let e = c.args.e in
+    rw (p.1, p.2) (answered_err (refusal_at s e) _ _ (receipt_at s e) c.in_err-ask.ensures).1
 
 pub returns : goal.returns
+unfolding answer_at
 returns c =
-    answer_refused (state_on c.args.m.now) c.args.e c.ask-r.result.number c.ask-r.ensures.number_is c.if-r-eq0.false
+    let s = state_on c.args.m.now in
+    let e = c.args.e in
+    let q = answered_ok (refusal_at s e) _ (offer_of s e) c.in_ok-ask.ensures in
+    rw (q.0, c.receipt.ensures)
