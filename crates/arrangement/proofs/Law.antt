@@ -1,14 +1,13 @@
 -- The law of the part: after a lawful history it answers what the rules say.
-use Prim.Native.Nat.{ℕ, ◌*◌, ◌≤◌, zero-le}
+use Prim.Native.Nat.{ℕ, ◌*◌, ◌≤◌}
 use mathlib.Core.Path.{◌≡◌, ap, ◌∙◌}
 use mathlib.Core.Bool.{true}
 use mathlib.Core.List.{[], ◌∷◌}
 use native.Mathlib.Omega.{arith}
-use lib.Dec.{leb}
-use borrow.Author.Tests.{le-leb, leb-true}
-use Rattle.basics.proofs.Cases.{on, on_eq, links}
+use borrow.Author.Tests.{le-leb}
+use Rattle.basics.proofs.Cases.{on, on_eq}
 use Rattle.rules.specs.Kinds.{payment, arrangement}
-use Rattle.rules.specs.Limits.{final_day, limit}
+use Rattle.rules.specs.Limits.{final_day}
 use Rattle.rules.specs.History.{History, is}
 use Rattle.rules.specs.Receipts.{returnable}
 use Rattle.rules.specs.Money.{arrears}
@@ -38,7 +37,7 @@ record Agreed (a : Terms) : Type 0 where
   day_le : a.day ≤ final_day * a.parts
 
 agreed : (h : History) → Lawful h → Agreed (terms h)
-agreed [] w = record { parts_le = zero-le; day_le = zero-le }
+agreed [] w = grind arith
 agreed (e ∷ h) w =
     let p = passed h e w.0 in
     on_eq e.kind arrangement
@@ -62,12 +61,4 @@ arrangement_law h w =
 
 -- what the test tells
 pub arrangement_fit : (a : Arrangement) → arrangement_ok a ≡ true → ArrangementFit a
-arrangement_fit a e =
-    let r = links (leb a.parts 6) (leb a.day (final_day * a.parts) ∷ leb a.debt limit ∷ leb a.paid limit ∷ leb a.returned limit ∷ []) e in
-    record {
-      parts_le = leb-true _ _ r.0;
-      day_le = leb-true _ _ r.1.0;
-      debt_le = leb-true _ _ r.1.1.0;
-      paid_le = leb-true _ _ r.1.1.1.0;
-      returned_le = leb-true _ _ r.1.1.1.1.0;
-    }
+arrangement_fit a e = grind arith

@@ -4,33 +4,28 @@ use mathlib.Core.Path.{◌≡◌, refl}
 use mathlib.Core.Bool.{Bool, true, false, ◌&&◌, ◌||◌}
 use mathlib.Core.List.{[], ◌∷◌}
 use native.Mathlib.Omega.{arith}
-use lib.Dec.{leb}
-use borrow.Author.Tests.{leb-true, le-leb}
-use Rattle.basics.proofs.Cases.{on, on_eq, both_ways, absorb, and_left, and_right, and_both}
+use Rattle.basics.proofs.Cases.{on, on_eq, absorb}
 use Rattle.rules.specs.declared.Event.{Event}
 use Rattle.rules.specs.Kinds.{call}
 use Rattle.rules.specs.Limits.{call_days}
 use Rattle.rules.specs.History.{History, is, within, last_posted}
 use Rattle.rules.specs.Notice.{called}
-use Rattle.rules.proofs.Days.{Sorted, within_true, within_in}
+use Rattle.rules.proofs.Days.{Sorted}
 use Rattle.collection.specs.declared.Calls.{Calls}
 use Rattle.collection.specs.Collection.{calls_after, recent_by, called_by, collection_of}
 
 recent_true : (m t : ℕ) → recent_by m t ≡ true → (1 ≤ m) × (m ≤ t) × (t ≤ m + (call_days - 1))
-unfolding recent_by
-recent_true m t e =
-    let w = within_true m (m + (call_days - 1)) t (and_right (leb 1 m) _ e) in
-    (leb-true 1 m (and_left (leb 1 m) _ e), w.0, w.1)
+unfolding recent_by within
+recent_true m t e = grind arith
 
 recent_in : (m t : ℕ) → 1 ≤ m → m ≤ t → t ≤ m + (call_days - 1) → recent_by m t ≡ true
-unfolding recent_by
-recent_in m t p q r = and_both (leb 1 m) _ (le-leb 1 m p) (within_in m (m + (call_days - 1)) t q r)
+unfolding recent_by within
+recent_in m t p q r = grind arith
 
 -- the day after a call's day d, kept
 recent_day : (d t : ℕ) → recent_by (d + 1) t ≡ within (d + 1) (d + call_days) t
-recent_day d t =
-    both_ways _ _ (λ e. let w = recent_true (d + 1) t e in within_in _ _ _ (omega arith) (omega arith))
-    (λ e. let w = within_true (d + 1) (d + call_days) t e in recent_in _ _ (omega arith) (omega arith) (omega arith))
+unfolding recent_by within
+recent_day d t = grind arith
 
 or_twice : (a b : Bool) → (a || (a || b)) ≡ (a || b)
 or_twice true b = refl
@@ -42,16 +37,11 @@ pub record CallsKept (c : Calls) (day : ℕ) : Type 0 where
   pub older : c.earlier ≤ c.last - 1
 
 kept_after : (c : Calls) (e : Event) (day : ℕ) → day ≤ e.day → CallsKept c day → CallsKept (calls_after c e) e.day
-kept_after c e day l k =
-    on (is call e)
-    (λ q. on_eq c.last (e.day + 1)
-    (λ s z. record { newest = simp q (omega arith); older = simp (q, s) (omega arith) })
-    (λ s z. record { newest = simp q (omega arith); older = simp (q, s) (omega arith) }))
-    (λ q. record { newest = simp q (omega arith); older = simp q (omega arith) })
+kept_after c e day l k = grind arith
 
 pub calls_kept : (h : History) → Sorted h → CallsKept (collection_of h).calls (last_posted h)
 unfolding collection_of
-calls_kept [] s = record { newest = omega arith; older = omega arith }
+calls_kept [] s = grind arith
 calls_kept (e ∷ h) s = kept_after (collection_of h).calls e (last_posted h) s.0 (calls_kept h s.1)
 
 -- one event, without lists

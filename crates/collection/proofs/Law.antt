@@ -1,31 +1,26 @@
 -- The law of the part: after a lawful history it answers what the rules say.
 use Prim.Native.Nat.{ℕ, ◌+◌, ◌≤◌}
 use mathlib.Core.Path.{◌≡◌, refl, sym}
-use mathlib.Core.Bool.{Bool, true, false, cond, not, ◌&&◌, ◌||◌}
+use mathlib.Core.Bool.{Bool, true, cond}
 use mathlib.Core.List.{[], ◌∷◌}
 use native.Mathlib.Omega.{arith}
-use lib.Dec.{leb, eqb}
 use borrow.Author.Tests.{le-leb}
 use Rattle.rules.specs.declared.Service.{Service}
 use Rattle.rules.specs.declared.Service.TheVariants.{On, Off, Closed}
-use Rattle.rules.specs.Kinds.{final_notice, disconnection, reconnection, closing}
-use Rattle.rules.specs.Limits.{final_day, enough}
+use Rattle.rules.specs.Kinds.{disconnection, reconnection, closing}
+use Rattle.rules.specs.Limits.{final_day}
 use Rattle.rules.specs.History.{History, is, last_posted}
-use Rattle.rules.specs.Money.{arrears}
 use Rattle.rules.specs.Service.{service}
 use Rattle.rules.specs.Notice.{notice_live, notice_in_days, called}
 use Rattle.rules.specs.Accepted.{Lawful}
 use Rattle.rules.proofs.Bounds.{sorted, in_days}
 use Rattle.collection.specs.Collection.{service_by, live_by, in_days_by, called_by, collection_of, collection_ok}
 use Rattle.collection.proofs.CallDays.{calls_kept, called_is}
-use Rattle.collection.proofs.NewestNotice.{mark_in, alone, day_past, surviving_is}
+use Rattle.collection.proofs.NewestNotice.{alone, day_past, surviving_is}
 
 -- one event, without lists: off, on, closed, or as before
 words_are : (d r c : Bool) (n : ℕ) (s : Service) → service_by n ≡ s → service_by (cond d 1 (cond r 0 (cond c 2 n))) ≡ cond d Off (cond r On (cond c Closed s))
-words_are true r c n s q = refl
-words_are false true c n s q = refl
-words_are false false true n s q = refl
-words_are false false false n s q = q
+words_are d r c n s q = grind arith
 
 service_is : (h : History) → service_by (collection_of h).service ≡ service h
 unfolding collection_of
@@ -33,10 +28,7 @@ service_is [] = refl
 service_is (e ∷ h) = words_are (is disconnection e) (is reconnection e) (is closing e) (collection_of h).service (service h) (service_is h)
 
 words_in : (d r c : Bool) (n : ℕ) → n ≤ 2 → cond d 1 (cond r 0 (cond c 2 n)) ≤ 2
-words_in true r c n l = omega arith
-words_in false true c n l = omega arith
-words_in false false true n l = omega arith
-words_in false false false n l = l
+words_in d r c n l = grind arith
 
 service_in_lem : (h : History) → (collection_of h).service ≤ 2
 unfolding collection_of
@@ -46,7 +38,7 @@ service_in_lem (e ∷ h) = words_in (is disconnection e) (is reconnection e) (is
 live_in : (h : History) → (collection_of h).notice.live ≤ 1
 unfolding collection_of
 live_in [] = omega arith
-live_in (e ∷ h) = mark_in ((is final_notice e || eqb (collection_of h).notice.live 1) && not (is disconnection e) && leb enough (arrears (e ∷ h) e.day))
+live_in (e ∷ h) = grind arith
 
 pub record CollectionLaw (h : History) : Type 0 where
   pub service_is : service_by (collection_of h).service ≡ service h

@@ -54,25 +54,8 @@ mark_in false = omega arith
 -- one event, without lists: a new notice where n, else the one kept
 step : (n a b s live : Bool) (W : ℕ → Bool) (d day : ℕ) → (n ≡ true → s ≡ false) → s ≡ (live && W day)
     → ((((n && W d) || s) && a) && b) ≡ ((((n || live) && a) && b) && W (cond n d day))
-step true a b s live W d day o q = rw (o refl) (shuffle (W d) a b)
-  where
-    shuffle : (w a b : Bool) → (((w || false) && a) && b) ≡ ((a && b) && w)
-    shuffle false false b = refl
-    shuffle false true false = refl
-    shuffle false true true = refl
-    shuffle true false b = refl
-    shuffle true true false = refl
-    shuffle true true true = refl
-step false a b s live W d day o q = rw q (shuffle live (W day) a b)
-  where
-    shuffle : (v w a b : Bool) → (((v && w) && a) && b) ≡ (((v && a) && b) && w)
-    shuffle false w a b = refl
-    shuffle true false false b = refl
-    shuffle true false true false = refl
-    shuffle true false true true = refl
-    shuffle true true false b = refl
-    shuffle true true true false = refl
-    shuffle true true true true = refl
+step true a b s live W d day o q = grind arith
+step false a b s live W d day o q = grind arith
 
 -- f n is the first day on which a notice of the day n counts: n itself for a live one, n + 5 for one in its days
 pub surviving_is : (f : ℕ → ℕ) (h : History) (t : ℕ) → Sorted h → Alone h → last_posted h ≤ t

@@ -2,12 +2,10 @@
 -- which a full deposit became full.
 use Prim.Native.Nat.{ℕ, ◌+◌, ◌-◌, ◌≤◌, ◌<◌, zero-le}
 use mathlib.Core.Path.{◌≡◌, refl, sym, ◌∙◌}
-use mathlib.Core.Bool.{true, false, cond, or-false, true≢false}
+use mathlib.Core.Bool.{true, false, cond, true≢false}
 use mathlib.Core.List.{[], ◌∷◌}
 use native.Mathlib.Omega.{arith}
-use lib.Dec.{ltb, eqb}
-use borrow.Author.Tests.{ltb-true, ltb-false, leb-false, eqb-true}
-use Rattle.basics.proofs.Cases.{on, on_eq, and_left, and_right}
+use Rattle.basics.proofs.Cases.{on, on_eq}
 use Rattle.rules.specs.declared.Event.{Event}
 use Rattle.rules.specs.declared.View.{View}
 use Rattle.rules.specs.Kinds.{deposit_asked, deposit_paid}
@@ -31,10 +29,10 @@ paid_in (e ∷ h) w = on (is deposit_paid e) (λ q. rw q (passed h e w.0).in_tim
 
 -- ---- row 7
 asked_over : (v : View) (e : Event) → row7 v e ≡ false → e.kind ≡ deposit_asked → v.held < e.amount
-asked_over v e r z = leb-false e.amount v.held (simp (z, or-false) at r)
+asked_over v e r z = grind arith
 
 paid_within : (v : View) (e : Event) → row7 v e ≡ false → e.kind ≡ deposit_paid → e.amount ≤ v.required - v.held
-paid_within v e r z = ltb-false (v.required - v.held) e.amount (simp (z, or-false) at r)
+paid_within v e r z = grind arith
 
 -- ---- what full says
 record Full (h : History) : Type 0 where
@@ -42,11 +40,7 @@ record Full (h : History) : Type 0 where
   all : held h ≡ required h
 
 is_full_lem : (h : History) → full h ≡ true → Full h
-is_full_lem h f =
-    record {
-      some = ltb-true 0 (required h) (and_left (ltb 0 (required h)) (eqb (held h) (required h)) f);
-      all = eqb-true (held h) (required h) (and_right (ltb 0 (required h)) (eqb (held h) (required h)) f);
-    }
+is_full_lem h f = grind arith
 
 module _ (h : History) (e : Event) (p : Passed h e) where
   -- while it is full no deposit is paid

@@ -5,10 +5,10 @@ use mathlib.Core.Bool.{true, ◌&&◌, and_assoc}
 use mathlib.Core.List.{[], ◌∷◌}
 use native.Mathlib.Omega.{arith}
 use lib.Dec.{leb}
-use borrow.Author.Tests.{le-leb, leb-true}
-use Rattle.basics.proofs.Cases.{on, links}
+use borrow.Author.Tests.{le-leb}
+use Rattle.basics.proofs.Cases.{on}
 use Rattle.rules.specs.Kinds.{deposit_asked, deposit_paid}
-use Rattle.rules.specs.Limits.{final_day, most_deposit, year}
+use Rattle.rules.specs.Limits.{final_day, year}
 use Rattle.rules.specs.History.{History, last_posted}
 use Rattle.rules.specs.Deposit.{moves, held, required, full, full_on, earned}
 use Rattle.rules.specs.Accepted.{Lawful}
@@ -63,6 +63,4 @@ deposit_law h w =
 
 -- what the test tells
 pub deposit_fit : (d : Deposit) → deposit_ok d ≡ true → DepositFit d
-deposit_fit d e =
-    let r = links (leb d.held d.required) (leb d.required most_deposit ∷ leb d.full_on final_day ∷ conduct_ok d.conduct ∷ []) e in
-    record { held_le = leb-true _ _ r.0; required_le = leb-true _ _ r.1.0 }
+deposit_fit d e = grind arith

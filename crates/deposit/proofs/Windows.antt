@@ -1,12 +1,12 @@
 -- The three newest notices and the newest disconnection say of the last 365 days what the whole history says.
-use Prim.Native.Nat.{ℕ, ◌+◌, ◌-◌, ◌≤◌, min, zero-le}
-use mathlib.Core.Path.{◌≡◌, refl, sym, ap}
+use Prim.Native.Nat.{ℕ, ◌+◌, ◌-◌, ◌≤◌, min}
+use mathlib.Core.Path.{◌≡◌, refl, sym}
 use mathlib.Core.Bool.{Bool, true, false, cond, not, ◌&&◌}
 use mathlib.Core.List.{[], ◌∷◌}
 use native.Mathlib.Omega.{arith}
 use lib.Dec.{leb}
-use borrow.Author.Tests.{le-leb, lt-leb, leb-true}
-use Rattle.basics.proofs.Cases.{on, and_left, and_right, and_both, absorb}
+use borrow.Author.Tests.{le-leb, lt-leb}
+use Rattle.basics.proofs.Cases.{on, absorb}
 use Rattle.rules.specs.Limits.{year}
 use Rattle.rules.specs.Kinds.{final_notice, disconnection}
 use Rattle.rules.specs.History.{History, is, within, last_posted, any, count}
@@ -25,17 +25,15 @@ was_cut h t = any (λ e. is disconnection e && in_year t e) h
 -- ---- a day that is kept as the day after it
 recent_now : (d t : ℕ) → d ≤ t → within d (d + (year - 1)) t ≡ leb t (d + (year - 1))
 unfolding within
-recent_now d t l = simp (le-leb d t l)
+recent_now d t l = grind arith
 
 year_more : (a b t : ℕ) → a ≤ b → in_year_by a t ≡ true → in_year_by b t ≡ true
 unfolding in_year_by
-year_more a b t l e =
-    and_both (leb 1 b) (leb t (b + (year - 2))) (le-leb 1 b (omega (arith, leb-true 1 a (and_left (leb 1 a) _ e))))
-    (le-leb t (b + (year - 2)) (omega (arith, leb-true t (a + (year - 2)) (and_right (leb 1 a) _ e))))
+year_more a b t l e = grind arith
 
 year_day : (d t : ℕ) → in_year_by (d + 1) t ≡ leb t (d + (year - 1))
 unfolding in_year_by
-year_day d t = rw (le-leb 1 (d + 1) (omega arith)) (ap (leb t) (omega arith))
+year_day d t = grind arith
 
 year_none : (t : ℕ) → in_year_by 0 t ≡ false
 unfolding in_year_by
@@ -50,7 +48,7 @@ pub record YearKept (w : Conduct) (day : ℕ) : Type 0 where
 
 pub year_kept : (h : History) → Sorted h → YearKept (conduct_of h) (last_posted h)
 unfolding conduct_of
-year_kept [] s = record { one = zero-le; two = zero-le; three = zero-le; cuts = zero-le }
+year_kept [] s = grind arith
 year_kept (e ∷ h) s =
     let k = year_kept h s.1 in
     let cuts : (conduct_of (e ∷ h)).cut ≤ e.day + 1 = on (is disconnection e) (λ r. rw r (omega arith)) (λ r. rw r (omega arith)) in
@@ -64,7 +62,7 @@ ones m t = cond (in_year_by m t) 1 0
 
 ones_at_most : (m t : ℕ) → ones m t ≤ 1
 unfolding ones
-ones_at_most m t = on (in_year_by m t) (λ q. simp q (omega arith)) (λ q. simp q (omega arith))
+ones_at_most m t = grind arith
 
 ones_more : (a b t : ℕ) → a ≤ b → ones a t ≤ ones b t
 unfolding ones

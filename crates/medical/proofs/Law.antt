@@ -6,8 +6,8 @@ use mathlib.Core.List.{[], ◌∷◌}
 use native.Mathlib.Omega.{arith}
 use lib.Dec.{ltb}
 use lib.ListN.{get_or}
-use borrow.Author.Tests.{le-leb, lt-ltb, le-ltb, ltb-true, eqb-true}
-use Rattle.basics.proofs.Cases.{on, on_lt, both_ways, at_most}
+use borrow.Author.Tests.{le-leb, le-ltb, eqb-true}
+use Rattle.basics.proofs.Cases.{on, at_most}
 use Rattle.rules.specs.declared.Event.{Event}
 use Rattle.rules.specs.Kinds.{certificate, approval}
 use Rattle.rules.specs.Limits.{final_day, certificate_days, approval_days}
@@ -24,10 +24,7 @@ use Rattle.medical.specs.Medical.{medical_of, certified_by, approved_by, medical
 
 -- t comes before the later of two days where it comes before one of them
 before_later : (t a b : ℕ) → ltb t (max a b) ≡ (ltb t b || ltb t a)
-before_later t a b =
-    on_lt t b
-    (λ q l. rw (q, lt-ltb t (max a b) (omega arith)))
-    (λ q l. rw q (both_ways _ _ (λ r. lt-ltb t a (omega (arith, ltb-true t (max a b) r))) (λ r. lt-ltb t (max a b) (omega (arith, ltb-true t a r)))))
+before_later t a b = grind arith
 
 -- the day past the end that an event of a kind sets, against a day not before it
 lasting : (k : Bool) (e : Event) (t : ℕ) → e.day ≤ t → ltb t (cond k (e.day + e.amount) 0) ≡ (k && covers e t)
@@ -61,7 +58,7 @@ record Ends (m : Medical) : Type 0 where
 
 ends : (h : History) → Lawful h → Ends (medical_of h)
 unfolding medical_of
-ends [] w = record { certified_le = zero-le; approved_le = zero-le }
+ends [] w = grind arith
 ends (e ∷ h) w =
     let k = ends h w.1 in
     let c = end_in certificate h e (passed h e w.0) in

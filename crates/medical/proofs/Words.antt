@@ -6,7 +6,6 @@ use mathlib.Core.List.{List}
 use native.Mathlib.Omega.{arith}
 use lib.ListN.{length}
 use Rattle.span.proofs.Law.{whole}
-use Rattle.basics.proofs.Cases.{or_left, or_right}
 use Rattle.rules.specs.declared.Event.{Event}
 use Rattle.rules.specs.Kinds.{certificate, approval}
 use Rattle.rules.specs.History.{is}
@@ -21,6 +20,4 @@ no_later a = omega arith
 
 -- an event of another kind leaves the part as it is
 pub untouched : (m : Medical) (e : Event) → (is certificate e || is approval e) ≡ false → m ≡ medical_after m e
-untouched m e f =
-    rw (or_left (is certificate e) (is approval e) f, or_right (is certificate e) (is approval e) f)
-    (λ i. record { certified_to = no_later m.certified_to i; approved_to = no_later m.approved_to i })
+untouched m e f = grind arith

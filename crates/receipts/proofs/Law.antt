@@ -7,7 +7,7 @@ use native.Mathlib.Omega.{arith}
 use lib.Dec.{ltb, eqb}
 use lib.ListN.{length, get_or, set, length-set}
 use lib.Seq.{get_or-set_same, get_or-set_other}
-use borrow.Author.Tests.{le-leb, leb-true, ltb-true}
+use borrow.Author.Tests.{le-leb, ltb-true}
 use Rattle.basics.proofs.Cases.{on, on_eq, and_left, and_right}
 use Rattle.basics.proofs.Lists.{at_set}
 use Rattle.rules.specs.Limits.{known_receipts}
@@ -55,7 +55,7 @@ full_length (e ∷ h) =
 
 places : (h : History) → Lawful h → Placed (receipts_of h).recent (payments h) (length (payments h)) (returned h)
 unfolding receipts_of
-places [] w = λ r p q v. absurd (omega arith)
+places [] w = grind arith
 places (e ∷ h) w =
     let k = places h w.1 in
     let n = length (payments h) in
@@ -99,4 +99,4 @@ receipts_law h w = record {
 
 -- what the test tells
 pub receipts_fit : (s : Receipts) → receipts_ok s ≡ true → ReceiptsFit s
-receipts_fit s e = record { count_le = leb-true _ _ e }
+receipts_fit s e = grind arith
