@@ -212,13 +212,9 @@ pub fn step(w: &mut [u64], e: Event, adds: bool, charge: u64, credit: u64)
     let w: &mut [u64; WORDS] = w.as_mut_array().unwrap();
     if adds {
         charge_item(w, u64::from(e.day), charge);
-        return;
-    }
-    if e.kind == PAYOUT {
+    } else if e.kind == PAYOUT {
         pay_out(w, e.amount);
-        return;
-    }
-    if 0 < credit {
+    } else if 0 < credit {
         add_credit(w, credit);
     }
 }
