@@ -3,7 +3,7 @@
 // is worked out here is posted as any bill is.
 #![tactic(auto)]
 
-ghost use Rattle.std.specs.Prelude.{◌≡◌, ◌≤◌, ◌<◌, get_or};
+ghost use Rattle.std.specs.Prelude.{◌≡◌, ◌-◌, ◌≤◌, ◌<◌, get_or, IfOk, IfErr};
 ghost use Rattle.basics.specs.Machine.{largest};
 ghost use Rattle.rules.specs.Tariff.{lines_from, energy_by, cents_of, bill_refusal, bill_of, bill_lines, no_line};
 ghost use Rattle.tariff.specs.Allowed.{Allowed};
@@ -79,36 +79,51 @@ fn energy(row: [Block; BLOCKS], usage: u64) -> u64
     sum
 }
 
-// The number that refuses a class and a usage, 0 for none.
-fn refusal(class: u8, usage: u64) -> u8
-    ensures { result ≡ bill_refusal class usage }
-{
-    if (1..=LAST_CLASS).contains(&class) && usage <= MOST_USAGE {
-        0
-    } else {
-        REFUSED
-    }
+// A class and a usage that a bill is worked out for.
+#[derive(Clone, Copy)]
+struct Metered {
+    class: u8,
+    usage: u64,
+    ghost allowed: { Allowed class usage },
 }
 
-// The cents of a class and a usage that are not refused: the basic charge, and the energy sum in whole cents, half a cent up.
-#[tactic(auto, unfolding(rules::specs::Tariff::cents_of))]
-fn cents(class: u8, usage: u64) -> u64
-    requires { Allowed class usage }
-    ensures { result ≡ cents_of class usage }
-{
-    let i = (class - 1) as usize;
-    BASIC_CHARGES[i] + (energy(SCHEDULES[i], usage) + 50) / 100
+impl Metered {
+    // Those of a class and a usage, or the number that refuses them.
+    fn of(class: u8, usage: u64) -> Result<Metered, u8>
+        ensures ok { IfOk result (λ m. (m.class ≡ class) × (m.usage ≡ usage)) }
+        ensures err { IfErr result (λ n. (n ≡ bill_refusal class usage) × (0 < n)) }
+    {
+        if (1..=LAST_CLASS).contains(&class) && usage <= MOST_USAGE {
+            Ok(Metered { class, usage })
+        } else {
+            Err(REFUSED)
+        }
+    }
+
+    // The row of the schedules that its class has.
+    fn row(self) -> usize
+        ensures { result ≡ self.class - 1 }
+    {
+        usize::from(self.class - 1)
+    }
+
+    // Its cents: the basic charge, and the energy sum in whole cents, half a cent up.
+    #[tactic(auto, unfolding(rules::specs::Tariff::cents_of))]
+    fn cents(self) -> u64
+        ensures { result ≡ cents_of self.class self.usage }
+    {
+        let i = self.row();
+        BASIC_CHARGES[i] + (energy(SCHEDULES[i], self.usage) + 50) / 100
+    }
 }
 
 // The bill of a class and a usage.
 pub fn bill(class: u8, usage: u64) -> Billed
     ensures { result ≡ bill_of class usage }
 {
-    let n = refusal(class, usage);
-    if n == 0 {
-        Billed::Cents(cents(class, usage))
-    } else {
-        Billed::Refused(n)
+    match Metered::of(class, usage) {
+        Ok(m) => Billed::Cents(m.cents()),
+        Err(n) => Billed::Refused(n),
     }
 }
 
@@ -116,11 +131,8 @@ pub fn bill(class: u8, usage: u64) -> Billed
 pub fn bill_line(class: u8, usage: u64, i: usize) -> Line
     ensures { result ≡ get_or (bill_lines class usage) i no_line }
 {
-    if refusal(class, usage) != 0 {
-        return NO_LINE;
+    match Metered::of(class, usage) {
+        Ok(m) if i < BLOCKS => line(SCHEDULES[m.row()], usage, i),
+        _ => NO_LINE,
     }
-    if BLOCKS <= i {
-        return NO_LINE;
-    }
-    line(SCHEDULES[(class - 1) as usize], usage, i)
 }
