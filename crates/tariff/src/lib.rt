@@ -1,11 +1,11 @@
-// Bills from the reading: the amount for a bill, worked out from a class and its kilowatt-hours, and the lines that it is made of. The
-// schedules are rows of blocks, a row for each class; source document 002 has the prices. The account knows nothing of them: what
-// is worked out here is posted as any bill is.
+// Bills from the reading: the amount for a bill, worked out from a class and its kilowatt-hours, and the lines that it is made of. Each
+// class has its schedule, a basic charge and a row of blocks; source document 002 has the prices. The account knows nothing of them:
+// what is worked out here is posted as any bill is.
 #![tactic(auto)]
 
-ghost use Rattle.std.specs.Prelude.{◌≡◌, ◌-◌, ◌≤◌, ◌<◌, get_or, IfOk, IfErr};
+ghost use Rattle.std.specs.Prelude.{◌≡◌, ◌≤◌, ◌<◌, get_or, IfOk, IfErr};
 ghost use Rattle.basics.specs.Machine.{largest};
-ghost use Rattle.rules.specs.Tariff.{lines_from, energy_by, cents_of, bill_refusal, bill_of, bill_lines, no_line};
+ghost use Rattle.rules.specs.Tariff.{lines_from, energy_by, row_of, basic_of, cents_of, bill_refusal, bill_of, bill_lines, no_line};
 ghost use Rattle.tariff.specs.Allowed.{Allowed};
 ghost use Rattle.tariff.specs.Blocks.{start_of};
 
@@ -20,26 +20,39 @@ const BLOCKS: usize = 3;
 // The number that refuses a class or a usage.
 const REFUSED: u8 = 23;
 
-// The basic charges in cents, by class: residential, single phase, three phase.
-const BASIC_CHARGES: [u64; CLASSES] = [1_031, 1_229, 2_218];
+// What a class pays: its basic charge in cents, and its blocks.
+#[derive(Clone, Copy)]
+struct Schedule {
+    basic_charge: u64,
+    blocks: [Block; BLOCKS],
+}
 
-// The schedules, by class. A class with one price has it in every block.
-const SCHEDULES: [[Block; BLOCKS]; CLASSES] = [
-    [
-        Block(15_000, 731),
-        Block(50_000, 731),
-        Block(MOST_USAGE, 731),
-    ],
-    [
-        Block(15_000, 767),
-        Block(50_000, 767),
-        Block(MOST_USAGE, 767),
-    ],
-    [
-        Block(15_000, 767),
-        Block(50_000, 647),
-        Block(MOST_USAGE, 467),
-    ],
+// The schedules, by class: residential, single phase, three phase. A class with one price has it in every block.
+const SCHEDULES: [Schedule; CLASSES] = [
+    Schedule {
+        basic_charge: 1_031,
+        blocks: [
+            Block(15_000, 731),
+            Block(50_000, 731),
+            Block(MOST_USAGE, 731),
+        ],
+    },
+    Schedule {
+        basic_charge: 1_229,
+        blocks: [
+            Block(15_000, 767),
+            Block(50_000, 767),
+            Block(MOST_USAGE, 767),
+        ],
+    },
+    Schedule {
+        basic_charge: 2_218,
+        blocks: [
+            Block(15_000, 767),
+            Block(50_000, 647),
+            Block(MOST_USAGE, 467),
+        ],
+    },
 ];
 
 // What stands past the last line.
@@ -100,11 +113,12 @@ impl Metered {
         }
     }
 
-    // The row of the schedules that its class has.
-    fn row(self) -> usize
-        ensures { result ≡ self.class - 1 }
+    // The schedule of its class.
+    fn schedule(self) -> Schedule
+        ensures basic_charge { result.basic_charge ≡ basic_of self.class }
+        ensures blocks { result.blocks ≡ row_of self.class }
     {
-        usize::from(self.class - 1)
+        SCHEDULES[usize::from(self.class - 1)]
     }
 
     // Its cents: the basic charge, and the energy sum in whole cents, half a cent up.
@@ -112,8 +126,8 @@ impl Metered {
     fn cents(self) -> u64
         ensures { result ≡ cents_of self.class self.usage }
     {
-        let i = self.row();
-        BASIC_CHARGES[i] + (energy(SCHEDULES[i], self.usage) + 50) / 100
+        let s = self.schedule();
+        s.basic_charge + (energy(s.blocks, self.usage) + 50) / 100
     }
 }
 
@@ -132,7 +146,7 @@ pub fn bill_line(class: u8, usage: u64, i: usize) -> Line
     ensures { result ≡ get_or (bill_lines class usage) i no_line }
 {
     match Metered::of(class, usage) {
-        Ok(m) if i < BLOCKS => line(SCHEDULES[m.row()], usage, i),
+        Ok(m) if i < BLOCKS => line(m.schedule().blocks, usage, i),
         _ => NO_LINE,
     }
 }
