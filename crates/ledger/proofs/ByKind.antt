@@ -1,39 +1,13 @@
 -- The step by kind, as code makes it in place: an event charges, or credits, or pays out, or leaves the ledger as it is.
 use Prim.Native.Nat.{ℕ}
-use mathlib.Core.Path.{◌≡◌, sym, ap, ◌∙◌}
-use mathlib.Core.Bool.{Bool, true, false, ◌||◌, true≢false}
-use borrow.Author.Tests.{eqb-true, eq-eqb, ne_eqb}
-use Rattle.basics.proofs.Cases.{on_eq}
+use mathlib.Core.Path.{◌≡◌, ap, ◌∙◌}
+use mathlib.Core.Bool.{Bool, true, false}
+use borrow.Author.Tests.{eq-eqb, ne_eqb}
 use Rattle.rules.specs.declared.Event.{Event}
-use Rattle.rules.specs.Kinds.{bill, payment, returned_payment, fee, payout, final_notice, reconnection}
+use Rattle.rules.specs.Kinds.{payout}
 use Rattle.rules.specs.History.{is, amount_if}
-use Rattle.rules.specs.Deposit.{moves}
-use Rattle.rules.specs.Money.{charges, credit_by}
-use Rattle.rules.proofs.Sums.{no_credit}
 use Rattle.ledger.specs.Ledger.{Ledger, entered_in, credited_in, paid_from, settled, ledger_after, LedgerFit, OneThing}
 use Rattle.ledger.proofs.Kept.{charge_step, credit_step, payout_step, no_step}
-
--- what charges neither credits nor pays out
-record Charges (e : Event) : Type 0 where
-  no_credits : (is payment e || moves e) ≡ false
-  no_payout : amount_if payout e ≡ 0
-
-charging : (e : Event) → charges e ≡ true → Charges e
-charging e c =
-    on_eq e.kind bill (λ _ z. record { no_credits = rw z; no_payout = rw z })
-    (λ p _. on_eq e.kind returned_payment (λ _ z. record { no_credits = rw z; no_payout = rw z })
-    (λ q _. on_eq e.kind fee (λ _ z. record { no_credits = rw z; no_payout = rw z })
-    (λ r _. on_eq e.kind final_notice (λ _ z. record { no_credits = rw z; no_payout = rw z })
-    (λ s _. on_eq e.kind reconnection (λ _ z. record { no_credits = rw z; no_payout = rw z })
-    (λ t _. absurd (true≢false (sym c ∙ simp (p, q, r, s, t))))))))
-
--- every event does one thing at most
-pub one_thing : (held : ℕ) (e : Event) → OneThing e (charges e) (credit_by held e)
-one_thing held e =
-    record {
-      alone = λ q. let k = charging e q in (no_credit held e k.no_credits, k.no_payout);
-      no_credit = λ q. let z : e.kind ≡ payout = eqb-true e.kind payout q in rw z;
-    }
 
 -- ---- what the step comes to
 no_payout : (e : Event) → (e.kind ≡ payout → ⊥) → amount_if payout e ≡ 0

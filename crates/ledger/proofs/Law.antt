@@ -1,4 +1,5 @@
 -- The law of the part: after a lawful history the ring holds the open items of the history, and all answers follow.
+use Rattle.std.proofs.lemmas.Grind.{common_steps}
 use Prim.Native.Nat.{ℕ, ◌+◌, ◌-◌, ◌≤◌, ◌<◌, zero-le, min}
 use mathlib.Core.Path.{◌≡◌, refl, sym, ap, ◌∙◌}
 use mathlib.Core.Bool.{true, false, cond}
@@ -7,9 +8,9 @@ use native.Mathlib.Omega.{arith}
 use lib.Dec.{leb, ltb}
 use lib.IntN.{sub_ℕ}
 use lib.ListN.{length, length-append}
-use borrow.Author.Tests.{ltb-true, ltb-false, lt-ltb, le-ltb, leb-false, le-leb}
+use borrow.Author.Tests.{ltb-true, lt-ltb, leb-false, le-leb}
 use Rattle.basics.specs.Machine.{largest}
-use Rattle.basics.proofs.Cases.{on, on_lt}
+use Rattle.basics.proofs.Cases.{on}
 use Rattle.basics.proofs.Lists.{All, all_append, all_more}
 use Rattle.rules.specs.declared.Event.{Event}
 use Rattle.rules.specs.declared.Item.{Item}
@@ -68,10 +69,7 @@ abbrev kept : History → List Item
 kept h = keep (is_open (credits h)) (items h)
 
 open_unpaid : (p : ℕ) (x : Item) → 0 < x.amount → is_open p x ≡ ltb 0 (unpaid p x)
-open_unpaid p x q =
-    on_lt p x.upto
-    (λ b l. b ∙ sym (lt-ltb 0 (unpaid p x) (omega arith)))
-    (λ b l. b ∙ sym (le-ltb 0 (unpaid p x) (omega arith)))
+open_unpaid p x q = grind (arith, common_steps)
 
 kept_open : (h : History) → Lawful h → kept h ≡ open_items h
 kept_open h w = keep_same (Sound (charged h)) (is_open (credits h)) (λ x. ltb 0 (unpaid (credits h) x)) (λ x p. open_unpaid (credits h) x p.1)
@@ -205,7 +203,7 @@ room_kept (e ∷ h) w = room_more h e w (room_kept h w.1)
 
 -- ---- the law
 closed_due : (p t : ℕ) (x : Item) → is_open p x ≡ false → due p t x ≡ 0
-closed_due p t x q = let l = ltb-false p x.upto q in on (leb (x.day + grace) t) (λ r. rw r (omega arith)) (λ r. rw r)
+closed_due p t x q = grind (arith, common_steps)
 
 -- no more is due than was charged
 due_le : (p t n k b c : ℕ) (s : List ℕ) → Chained b c (items_from n k b s) → sum_of (due p t) (items_from n k b s) ≤ c

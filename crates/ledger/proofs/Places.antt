@@ -1,14 +1,14 @@
 -- Every place of the ring after items xs: the newest that stands there, open or paid; 0 where none ever stood.
+use Rattle.std.proofs.lemmas.Grind.{common_steps}
 use Prim.Native.Nat.{ℕ, ◌+◌, ◌-◌, ◌*◌, ◌/◌, ◌%◌, ◌≤◌, ◌<◌}
-use mathlib.Core.Path.{◌≡◌, refl, sym, ap, ◌∙◌}
+use mathlib.Core.Path.{◌≡◌, refl, sym, ◌∙◌}
 use mathlib.Core.List.{List, [], ◌∷◌, ◌++◌}
 use native.Mathlib.Omega.{arith}
-use lib.ListN.{length, get_or, replicate, length-append, length-set, get_or-replicate, get_or-append}
-use lib.Seq.{get_or-append_seam, ext_get_or}
+use lib.ListN.{length, get_or, replicate, get_or-replicate}
+use lib.Seq.{ext_get_or}
 use Rattle.basics.proofs.Cases.{on_lt, on_eq}
 use Rattle.rules.specs.declared.Item.{Item}
 use Rattle.ledger.specs.Ring.{places, ring_size, day_in, upto_in, day_at, upto_at, stored}
-use Rattle.ledger.proofs.Ring.{apart, day_new, upto_new, day_old, upto_old}
 
 -- past the last
 abbrev zero_item : Item
@@ -32,34 +32,8 @@ none_placed =
     }
 
 module _ (xs : List Item) (s : List ℕ) (p : Placed xs s) (x : Item) where
-  more : length (xs ++ (x ∷ [])) ≡ length xs + 1
-  more = rw length-append
-
   pub placed_more : Placed (xs ++ (x ∷ [])) (stored s (length xs) x.day x.upto)
-  placed_more =
-      record {
-        size = simp length-set p.size;
-        days = λ k a b.
-            on_lt k (length xs)
-            (λ q l. day_old s k (length xs) x.day x.upto (apart k (length xs) l (omega (arith, more))) ∙ (p.days k l (omega (arith, more))
-            ∙ ap (λ y. y.day) (sym (get_or-append xs (x ∷ []) zero_item k l))))
-            (λ q l. let z : k
-            ≡ length xs =
-            omega (arith, more) in rw z
-            (day_new s p.size (length xs) x.day x.upto ∙ ap (λ y. y.day) (sym (get_or-append_seam xs x [] zero_item))));
-        uptos = λ k a b.
-            on_lt k (length xs)
-            (λ q l. upto_old s k (length xs) x.day x.upto (apart k (length xs) l (omega (arith, more))) ∙ (p.uptos k l (omega (arith, more))
-            ∙ ap (λ y. y.upto) (sym (get_or-append xs (x ∷ []) zero_item k l))))
-            (λ q l. let z : k
-            ≡ length xs =
-            omega (arith, more) in rw z
-            (upto_new s p.size (length xs) x.day x.upto ∙ ap (λ y. y.upto) (sym (get_or-append_seam xs x [] zero_item))));
-        free_days = λ k a b. day_old s k (length xs) x.day x.upto (λ e. apart (length xs) k (omega (arith, more)) (omega (arith, more)) (sym e))
-            ∙ p.free_days k (omega (arith, more)) b;
-        free_uptos = λ k a b. upto_old s k (length xs) x.day x.upto (λ e. apart (length xs) k (omega (arith, more)) (omega (arith, more)) (sym e))
-            ∙ p.free_uptos k (omega (arith, more)) b;
-      }
+  placed_more = grind (arith, common_steps)
 
 -- ---- the places say every word: what xs leave in the ring is one list
 -- the newest of n items that stands at place i

@@ -1,53 +1,21 @@
 -- The ring as a list of items: one more joins at the end, and what is paid leaves at the front.
-use Prim.Native.Nat.{ℕ, zero, suc, ◌+◌, ◌-◌, ◌%◌, ◌≤◌, ◌<◌}
+use Rattle.std.proofs.lemmas.Grind.{common_steps}
+use Prim.Native.Nat.{ℕ, zero, suc, ◌+◌, ◌-◌, ◌≤◌, ◌<◌}
 use mathlib.Core.Path.{◌≡◌, refl, sym, ap}
 use mathlib.Core.Bool.{Bool}
 use mathlib.Core.List.{List, [], ◌∷◌, ◌++◌}
 use native.Mathlib.Omega.{arith}
 use lib.Dec.{ltb}
-use lib.ListN.{length, set, length-set}
-use lib.Seq.{get_or-set_same, get_or-set_other}
+use lib.ListN.{length}
 use borrow.Author.Tests.{lt-ltb}
 use Rattle.basics.proofs.Cases.{on_lt}
 use Rattle.rules.specs.declared.Item.{Item}
 use Rattle.rules.specs.Money.{keep, sum_of}
-use Rattle.ledger.specs.Ring.{places, ring_size, day_in, upto_in, day_at, upto_at, stored, item_at, items_from, closed_from, below_from}
+use Rattle.ledger.specs.Ring.{places, ring_size, upto_at, stored, item_at, items_from, closed_from, below_from}
 
 -- kept while credits of p have not paid all of it
 abbrev pub is_open : ℕ → Item → Bool
 is_open p x = ltb p x.upto
-
--- ---- a store of item j
-module _ (s : List ℕ) (l : length s ≡ ring_size) (j d u : ℕ) where
-  pub day_new : day_at (stored s j d u) j ≡ d
-  day_new =
-      rw (
-        get_or-set_other (set s (day_in j) d) (upto_in j) (day_in j) u 0 (omega arith),
-        get_or-set_same s (day_in j) d 0 (omega arith),
-      )
-
-  pub upto_new : upto_at (stored s j d u) j ≡ u
-  upto_new = get_or-set_same (set s (day_in j) d) (upto_in j) u 0 (rw length-set (omega arith))
-
--- two items less than a turn apart have places of their own
-pub apart : (k j : ℕ) → k < j → j < k + places → k % places ≡ j % places → ⊥
-apart k j a b e = omega arith
-
--- it leaves every other place
-module _ (s : List ℕ) (k j d u : ℕ) (a : k % places ≡ j % places → ⊥) where
-  pub day_old : day_at (stored s j d u) k ≡ day_at s k
-  day_old =
-      rw (
-        get_or-set_other (set s (day_in j) d) (upto_in j) (day_in k) u 0 (omega arith),
-        get_or-set_other s (day_in j) (day_in k) d 0 (λ e. a (omega arith)),
-      )
-
-  pub upto_old : upto_at (stored s j d u) k ≡ upto_at s k
-  upto_old =
-      rw (
-        get_or-set_other (set s (day_in j) d) (upto_in j) (upto_in k) u 0 (λ e. a (omega arith)),
-        get_or-set_other s (day_in j) (upto_in k) d 0 (omega arith),
-      )
 
 -- ---- the sums rise from b, and the last is c
 abbrev pub Chained : (b c : ℕ) → List Item → Type 0
@@ -57,15 +25,8 @@ Chained b c (x ∷ xs) = (b < x.upto) × Chained x.upto c xs
 -- ---- one more item joins at the end; b is the sum before the first, c that of all
 pub ring_joined : (n k b c : ℕ) (s : List ℕ) (d a : ℕ) → length s ≡ ring_size → n < places → Chained b c (items_from n k b s)
     → items_from (suc n) k b (stored s (k + n) d (c + a)) ≡ items_from n k b s ++ (record { day = d; amount = a; upto = c + a } ∷ [])
-ring_joined zero k b c s d a l r e =
-    let z : k + 0 ≡ k = omega arith in
-    let y : c + a - b ≡ a = omega (arith, e) in
-    rw (z, day_new s l k d (c + a), upto_new s l k d (c + a), y)
-ring_joined (suc n) k b c s d a l r e =
-    let z : k + suc n ≡ suc k + n = omega arith in
-    let y = apart k (k + suc n) (omega arith) (omega arith) in
-    rw (day_old s k (k + suc n) d (c + a) y, upto_old s k (k + suc n) d (c + a) y, z)
-    (ap (λ xs. item_at s k b ∷ xs) (ring_joined n (suc k) (upto_at s k) c s d a l (omega arith) e.1))
+ring_joined zero k b c s d a l r e = grind (arith, common_steps)
+ring_joined (suc n) k b c s d a l r e = grind (arith, common_steps, ring_joined n (suc k) (upto_at s k) c s d a l (omega arith) e.1)
 
 pub chain_join : (b c d a : ℕ) (xs : List Item) → 0 < a → Chained b c xs → Chained b (c + a) (xs ++ (record { day = d; amount = a; upto = c + a } ∷ []))
 chain_join b c d a [] p e = (omega (arith, e), refl)
@@ -101,9 +62,7 @@ module _ (p c : ℕ) (s : List ℕ) where
 -- none is closed that was not made, and none opens again
 pub closed_in : (n k p : ℕ) (s : List ℕ) → (k ≤ closed_from n k p s) × (closed_from n k p s ≤ k + n)
 closed_in zero k p s = (omega arith, omega arith)
-closed_in (suc n) k p s =
-    let ih = closed_in n (suc k) p s in
-    on_lt p (upto_at s k) (λ q h. rw q (omega arith, omega arith)) (λ q h. rw q (omega arith, omega arith))
+closed_in (suc n) k p s = grind (arith, common_steps, closed_in n (suc k) p s)
 
 -- ---- settling a second time finds nothing, nor does settling for less
 module _ (p q : ℕ) (s : List ℕ) (h : q ≤ p) where

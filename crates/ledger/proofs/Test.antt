@@ -1,4 +1,5 @@
 -- What the test tells, and that an event which the table lets pass has room.
+use Rattle.std.proofs.lemmas.Grind.{common_steps}
 use Prim.Native.Nat.{◌-◌}
 use mathlib.Core.Path.{◌≡◌}
 use mathlib.Core.Bool.{true}
@@ -15,7 +16,6 @@ use Rattle.rules.specs.Table.{charge_of, credit_of}
 use Rattle.rules.proofs.Room.{Room}
 use Rattle.ledger.specs.Ledger.{Ledger, credits_by, is_settled, ledger_ok, LedgerFit, LedgerRoom}
 use Rattle.ledger.proofs.Kept.{still_settled}
-use Rattle.ledger.proofs.ByKind.{one_thing}
 
 pub ledger_fit : (l : Ledger) → ledger_ok l ≡ true → LedgerFit l
 ledger_fit l e =
@@ -35,10 +35,4 @@ ledger_fit l e =
 pub ledger_room : (l : Ledger) (v : View) (e : Event) → LedgerFit l → Room v e
     → v.charged ≡ l.charged → v.credited ≡ l.credited → v.credits ≡ credits_by l
     → LedgerRoom l e (charges e) (charge_of v e) (credit_of v e)
-ledger_room l v e f r c d p =
-    record {
-      charged_room = omega (arith, r.charged_room);
-      credited_room = omega (arith, r.credited_room);
-      paid_room = omega (arith, r.payout_room, f.paid_le);
-      one = one_thing v.held e;
-    }
+ledger_room l v e f r c d p = grind (arith, common_steps)

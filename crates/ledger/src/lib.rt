@@ -61,6 +61,15 @@ pub struct OpenItem {
 }
 
 // ---- what is read
+// The words as an array, whose length its type says. C lends an account as one slice, so what is public takes a slice of it, and its
+// length as a clause.
+fn whole(w: &[u64]) -> &[u64; WORDS]
+    requires { length w.now ≡ ledger_size }
+    ensures { result.now ≡ w.now }
+{
+    w.as_array().unwrap()
+}
+
 // Where item k stands: its day is there, and the sum of all charges up to it follows.
 fn place(k: u64) -> usize
     ensures { result ≡ 6 + day_in k }
@@ -70,8 +79,7 @@ fn place(k: u64) -> usize
 
 impl Entry {
     // That of item k.
-    fn at(w: &[u64], k: u64) -> Entry
-        requires { length w.now ≡ ledger_size }
+    fn at(w: &[u64; WORDS], k: u64) -> Entry
         ensures day { result.day ≡ day_at (ledger_on w.now).ring k }
         ensures upto { result.upto ≡ upto_at (ledger_on w.now).ring k }
     {
@@ -103,8 +111,7 @@ impl Entry {
 }
 
 // Payments plus deposits moved, less payouts (document 01: P).
-fn credits(w: &[u64]) -> u64
-    requires { length w.now ≡ ledger_size }
+fn credits(w: &[u64; WORDS]) -> u64
     ensures { result ≡ credits_by (ledger_on w.now) }
 {
     w[CREDITED].saturating_sub(w[PAID_OUT])
@@ -119,8 +126,7 @@ struct Mark {
 }
 
 #[tactic(auto, using(crate::proofs::Turns::stop, crate::proofs::Turns::pass))]
-fn first_open(w: &[u64]) -> Mark
-    requires { length w.now ≡ ledger_size }
+fn first_open(w: &[u64; WORDS]) -> Mark
     ensures { Settled (ledger_on w.now) result.closed result.below }
 {
     let p = credits(w);
@@ -142,8 +148,7 @@ fn first_open(w: &[u64]) -> Mark
     mark
 }
 
-fn settle(w: &mut [u64])
-    requires { length w.old ≡ ledger_size }
+fn settle(w: &mut [u64; WORDS])
     ensures { ledger_on w.new ≡ settled (ledger_on w.old) }
 {
     let m = first_open(w);
@@ -153,8 +158,8 @@ fn settle(w: &mut [u64])
 
 // ---- the steps
 // One more item.
-fn enter(w: &mut [u64], day: u64, amount: u64)
-    requires { (length w.old ≡ ledger_size) × ((ledger_on w.old).charged + amount ≤ limit) × ((ledger_on w.old).made ≤ limit) }
+fn enter(w: &mut [u64; WORDS], day: u64, amount: u64)
+    requires { ((ledger_on w.old).charged + amount ≤ limit) × ((ledger_on w.old).made ≤ limit) }
     ensures { ledger_on w.new ≡ entered_in (ledger_on w.old) day amount }
 {
     let upto = w[CHARGED] + amount;
@@ -168,8 +173,8 @@ fn enter(w: &mut [u64], day: u64, amount: u64)
 }
 
 // The new item is settled with the others: where there is credit it may be paid at once.
-fn charge_item(w: &mut [u64], day: u64, amount: u64)
-    requires { (length w.old ≡ ledger_size) × ((ledger_on w.old).charged + amount ≤ limit) × ((ledger_on w.old).made ≤ limit) }
+fn charge_item(w: &mut [u64; WORDS], day: u64, amount: u64)
+    requires { ((ledger_on w.old).charged + amount ≤ limit) × ((ledger_on w.old).made ≤ limit) }
     ensures { ledger_on w.new ≡ settled (entered_in (ledger_on w.old) day amount) }
 {
     enter(w, day, amount);
@@ -177,8 +182,8 @@ fn charge_item(w: &mut [u64], day: u64, amount: u64)
 }
 
 // A payment, or a deposit moved.
-fn add_credit(w: &mut [u64], amount: u64)
-    requires { (length w.old ≡ ledger_size) × ((ledger_on w.old).credited + amount ≤ limit) }
+fn add_credit(w: &mut [u64; WORDS], amount: u64)
+    requires { (ledger_on w.old).credited + amount ≤ limit }
     ensures { ledger_on w.new ≡ settled (credited_in (ledger_on w.old) amount) }
 {
     let credited = w[CREDITED] + amount;
@@ -187,8 +192,8 @@ fn add_credit(w: &mut [u64], amount: u64)
 }
 
 // Credits fall by a payout, so nothing is settled.
-fn pay_out(w: &mut [u64], amount: u64)
-    requires { (length w.old ≡ ledger_size) × ((ledger_on w.old).paid_out + amount ≤ limit) }
+fn pay_out(w: &mut [u64; WORDS], amount: u64)
+    requires { (ledger_on w.old).paid_out + amount ≤ limit }
     ensures { ledger_on w.new ≡ paid_from (ledger_on w.old) amount }
 {
     let paid = w[PAID_OUT] + amount;
@@ -204,15 +209,12 @@ pub fn step(w: &mut [u64], e: Event, adds: bool, charge: u64, credit: u64)
     requires ledger_room { LedgerRoom (ledger_on w.old) e adds charge credit }
     ensures { ledger_on w.new ≡ ledger_after (ledger_on w.old) e adds charge credit }
 {
+    let w: &mut [u64; WORDS] = w.as_mut_array().unwrap();
     if adds {
         charge_item(w, u64::from(e.day), charge);
-        return;
-    }
-    if e.is(Kind::Payout) {
+    } else if e.is(Kind::Payout) {
         pay_out(w, e.amount);
-        return;
-    }
-    if 0 < credit {
+    } else if 0 < credit {
         add_credit(w, credit);
     }
 }
@@ -222,6 +224,7 @@ pub fn sums_of(w: &[u64]) -> Sums
     requires { length w.now ≡ ledger_size }
     ensures { result ≡ sums_of (ledger_on w.now) }
 {
+    let w = whole(w);
     Sums {
         charged: w[CHARGED],
         credited: w[CREDITED],
@@ -236,6 +239,7 @@ pub fn owed(w: &[u64]) -> i64
     requires ledger_fit { LedgerFit (ledger_on w.now) }
     ensures { result ≡ sub_ℕ (ledger_on w.now).charged (credits_by (ledger_on w.now)) }
 {
+    let w = whole(w);
     basics::difference(w[CHARGED], credits(w))
 }
 
@@ -245,6 +249,7 @@ pub fn arrears(w: &[u64], t: u64) -> u64
     requires { length w.now ≡ ledger_size }
     ensures { result ≡ arrears_by (ledger_on w.now) t }
 {
+    let w = whole(w);
     let p = credits(w);
     let made = w[MADE];
     let mut below = w[BELOW];
@@ -262,15 +267,12 @@ pub fn arrears_where(w: &[u64], t: u64, wanted: bool) -> u64
     requires { length w.now ≡ ledger_size }
     ensures { result ≡ cond wanted (arrears_by (ledger_on w.now) t) 0 }
 {
-    if wanted {
-        return arrears(w, t);
-    }
-    0
+    if wanted { arrears(w, t) } else { 0 }
 }
 
 // The sum of the items before open item i.
-fn sum_before(w: &[u64], i: u64) -> u64
-    requires { (length w.now ≡ ledger_size) × (i < (ledger_on w.now).made - (ledger_on w.now).closed) }
+fn sum_before(w: &[u64; WORDS], i: u64) -> u64
+    requires { i < (ledger_on w.now).made - (ledger_on w.now).closed }
     ensures { result ≡ sum_before (ledger_on w.now) i }
 {
     if i == 0 {
@@ -284,6 +286,7 @@ pub fn open_item(w: &[u64], i: u64) -> OpenItem
     requires { length w.now ≡ ledger_size }
     ensures { result ≡ get_or (open_by (ledger_on w.now)) i no_item }
 {
+    let w = whole(w);
     let closed = w[CLOSED];
     if w[MADE].saturating_sub(closed) <= i {
         return OpenItem { day: 0, unpaid: 0 };
@@ -298,16 +301,14 @@ pub fn open_item(w: &[u64], i: u64) -> OpenItem
 
 // ---- the test
 // Whether nothing that is paid is open still.
-fn is_settled(w: &[u64]) -> bool
-    requires { length w.now ≡ ledger_size }
+fn is_settled(w: &[u64; WORDS]) -> bool
     ensures { result ≡ is_settled (ledger_on w.now) }
 {
     let closed = w[CLOSED];
     (w[MADE] <= closed) | (credits(w) < Entry::at(w, closed).upto)
 }
 
-fn head_ok(w: &[u64]) -> bool
-    requires { length w.now ≡ ledger_size }
+fn head_ok(w: &[u64; WORDS]) -> bool
     ensures { result ≡ head_ok (ledger_on w.now) }
 {
     let charged = w[CHARGED];
@@ -327,5 +328,6 @@ pub fn ok(w: &[u64]) -> bool
     requires { length w.now ≡ ledger_size }
     ensures { result ≡ ledger_ok (ledger_on w.now) }
 {
+    let w = whole(w);
     head_ok(w) & is_settled(w)
 }

@@ -1,11 +1,11 @@
-// Bills from the reading: the amount for a bill, worked out from a class and its kilowatt-hours, and the lines that it is made of. The
-// schedules are rows of blocks, a row for each class; source document 002 has the prices. The account knows nothing of them: what
-// is worked out here is posted as any bill is.
+// Bills from the reading: the amount for a bill, worked out from a class and its kilowatt-hours, and the lines that it is made of. Each
+// class has its schedule, a basic charge and a row of blocks; source document 002 has the prices. The account knows nothing of them:
+// what is worked out here is posted as any bill is.
 #![tactic(auto)]
 
-ghost use Rattle.std.specs.Prelude.{◌≡◌, ◌≤◌, ◌<◌, get_or};
+ghost use Rattle.std.specs.Prelude.{◌≡◌, ◌≤◌, ◌<◌, get_or, IfOk, IfErr};
 ghost use Rattle.basics.specs.Machine.{largest};
-ghost use Rattle.rules.specs.Tariff.{lines_from, energy_by, cents_of, bill_refusal, bill_of, bill_lines, no_line};
+ghost use Rattle.rules.specs.Tariff.{lines_from, energy_by, row_of, basic_of, cents_of, bill_refusal, bill_of, bill_lines, no_line};
 ghost use Rattle.tariff.specs.Allowed.{Allowed};
 ghost use Rattle.tariff.specs.Blocks.{start_of};
 
@@ -20,26 +20,39 @@ const BLOCKS: usize = 3;
 // The number that refuses a class or a usage.
 const REFUSED: u8 = 23;
 
-// The basic charges in cents, by class: residential, single phase, three phase.
-const BASIC_CHARGES: [u64; CLASSES] = [1_031, 1_229, 2_218];
+// What a class pays: its basic charge in cents, and its blocks.
+#[derive(Clone, Copy)]
+struct Schedule {
+    basic_charge: u64,
+    blocks: [Block; BLOCKS],
+}
 
-// The schedules, by class. A class with one price has it in every block.
-const SCHEDULES: [[Block; BLOCKS]; CLASSES] = [
-    [
-        Block(15_000, 731),
-        Block(50_000, 731),
-        Block(MOST_USAGE, 731),
-    ],
-    [
-        Block(15_000, 767),
-        Block(50_000, 767),
-        Block(MOST_USAGE, 767),
-    ],
-    [
-        Block(15_000, 767),
-        Block(50_000, 647),
-        Block(MOST_USAGE, 467),
-    ],
+// The schedules, by class: residential, single phase, three phase. A class with one price has it in every block.
+const SCHEDULES: [Schedule; CLASSES] = [
+    Schedule {
+        basic_charge: 1_031,
+        blocks: [
+            Block(15_000, 731),
+            Block(50_000, 731),
+            Block(MOST_USAGE, 731),
+        ],
+    },
+    Schedule {
+        basic_charge: 1_229,
+        blocks: [
+            Block(15_000, 767),
+            Block(50_000, 767),
+            Block(MOST_USAGE, 767),
+        ],
+    },
+    Schedule {
+        basic_charge: 2_218,
+        blocks: [
+            Block(15_000, 767),
+            Block(50_000, 647),
+            Block(MOST_USAGE, 467),
+        ],
+    },
 ];
 
 // What stands past the last line.
@@ -79,36 +92,52 @@ fn energy(row: [Block; BLOCKS], usage: u64) -> u64
     sum
 }
 
-// The number that refuses a class and a usage, 0 for none.
-fn refusal(class: u8, usage: u64) -> u8
-    ensures { result ≡ bill_refusal class usage }
-{
-    if (1..=LAST_CLASS).contains(&class) && usage <= MOST_USAGE {
-        0
-    } else {
-        REFUSED
-    }
+// A class and a usage that a bill is worked out for.
+#[derive(Clone, Copy)]
+struct Metered {
+    class: u8,
+    usage: u64,
+    ghost allowed: { Allowed class usage },
 }
 
-// The cents of a class and a usage that are not refused: the basic charge, and the energy sum in whole cents, half a cent up.
-#[tactic(auto, unfolding(rules::specs::Tariff::cents_of))]
-fn cents(class: u8, usage: u64) -> u64
-    requires { Allowed class usage }
-    ensures { result ≡ cents_of class usage }
-{
-    let i = (class - 1) as usize;
-    BASIC_CHARGES[i] + (energy(SCHEDULES[i], usage) + 50) / 100
+impl Metered {
+    // Those of a class and a usage, or the number that refuses them.
+    fn of(class: u8, usage: u64) -> Result<Metered, u8>
+        ensures ok { IfOk result (λ m. (m.class ≡ class) × (m.usage ≡ usage)) }
+        ensures err { IfErr result (λ n. (n ≡ bill_refusal class usage) × (0 < n)) }
+    {
+        if (1..=LAST_CLASS).contains(&class) && usage <= MOST_USAGE {
+            Ok(Metered { class, usage })
+        } else {
+            Err(REFUSED)
+        }
+    }
+
+    // The schedule of its class.
+    fn schedule(self) -> Schedule
+        ensures basic_charge { result.basic_charge ≡ basic_of self.class }
+        ensures blocks { result.blocks ≡ row_of self.class }
+    {
+        SCHEDULES[usize::from(self.class - 1)]
+    }
+
+    // Its cents: the basic charge, and the energy sum in whole cents, half a cent up.
+    #[tactic(auto, unfolding(rules::specs::Tariff::cents_of))]
+    fn cents(self) -> u64
+        ensures { result ≡ cents_of self.class self.usage }
+    {
+        let s = self.schedule();
+        s.basic_charge + (energy(s.blocks, self.usage) + 50) / 100
+    }
 }
 
 // The bill of a class and a usage.
 pub fn bill(class: u8, usage: u64) -> Billed
     ensures { result ≡ bill_of class usage }
 {
-    let n = refusal(class, usage);
-    if n == 0 {
-        Billed::Cents(cents(class, usage))
-    } else {
-        Billed::Refused(n)
+    match Metered::of(class, usage) {
+        Ok(m) => Billed::Cents(m.cents()),
+        Err(n) => Billed::Refused(n),
     }
 }
 
@@ -116,11 +145,8 @@ pub fn bill(class: u8, usage: u64) -> Billed
 pub fn bill_line(class: u8, usage: u64, i: usize) -> Line
     ensures { result ≡ get_or (bill_lines class usage) i no_line }
 {
-    if refusal(class, usage) != 0 {
-        return NO_LINE;
+    match Metered::of(class, usage) {
+        Ok(m) if i < BLOCKS => line(m.schedule().blocks, usage, i),
+        _ => NO_LINE,
     }
-    if BLOCKS <= i {
-        return NO_LINE;
-    }
-    line(SCHEDULES[(class - 1) as usize], usage, i)
 }
