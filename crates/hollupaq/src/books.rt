@@ -8,6 +8,7 @@ ghost use Rattle.hollupaq.specs.Library.{told};
 ghost use Rattle.hollupaq.specs.Books.{Stored};
 
 use crate::ACCEPTED;
+use bookwrite::LentList;
 use little::get;
 
 // The number at byte p of the header, where the book is not refused.
@@ -19,7 +20,7 @@ fn header_number(book: &[u8], p: usize) -> u64
     if n != 0 {
         return n as u64;
     }
-    ACCEPTED + get(book, p, 4)
+    ACCEPTED + get::<4>(book, p)
 }
 
 // The test of a book: 20 or 21 where it is refused, else 256 and how many accounts it has.
@@ -67,7 +68,14 @@ pub extern "C" fn hollupaq_book_write(
 ) -> u64
     ensures { Stored counts.now kinds.now options.now days.now amounts.now out.old out.new result }
 {
-    let o = bookwrite::write(counts, kinds, options, days, amounts, out);
+    let list = LentList {
+        counts,
+        kinds,
+        options,
+        days,
+        amounts,
+    };
+    let o = bookwrite::write(list, out);
     let n = o.number();
     if n != 0 {
         return n as u64;
