@@ -80,5 +80,5 @@ pub extern "C" fn hollupaq_book_write(
     if n != 0 {
         return n as u64;
     }
-    ACCEPTED + (8 + 8 * counts.len() + 16 * kinds.len()) as u64
+    ACCEPTED + bookformat::size(counts.len(), kinds.len()) as u64
 }
