@@ -8,6 +8,7 @@ ghost use Rattle.hollupaq.specs.Library.{told};
 ghost use Rattle.hollupaq.specs.Books.{Stored};
 
 use crate::ACCEPTED;
+use bookread::LentMemory;
 use bookwrite::LentList;
 use little::get;
 
@@ -51,7 +52,14 @@ pub extern "C" fn hollupaq_book_read(
 ) -> u8
     ensures { Gave book.now counts.old kinds.old options.old days.old amounts.old counts.new kinds.new options.new days.new amounts.new result }
 {
-    let o = bookread::read(book, counts, kinds, options, days, amounts);
+    let mut memory = LentMemory {
+        counts,
+        kinds,
+        options,
+        days,
+        amounts,
+    };
+    let o = bookread::read(book, &mut memory);
     o.number()
 }
 
