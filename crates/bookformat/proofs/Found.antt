@@ -6,12 +6,12 @@ use Prim.Native.Nat.{ℕ, zero, suc, ◌+◌, ◌*◌, ◌-◌, ◌/◌, ◌≤�
 use native.Mathlib.Nat.{not-suc-le-zero, le_of_suc-le-suc}
 use native.Mathlib.Numerals.{add-one}
 use native.Mathlib.Omega.{arith}
-use borrow.Author.Tests.{eqb-true, leb-true, le-leb}
-use lib.Dec.{leb, eqb}
+use borrow.Author.Tests.{eqb-true, le-leb}
+use lib.Dec.{eqb}
 use lib.ListN.{length, take, drop, get_or}
 use lib.Seq.{drop-drop, drop-cons}
 use Rattle.rules.specs.declared.Event.{Event}
-use Rattle.basics.proofs.Cases.{on, on_lt, and_left, and_right}
+use Rattle.basics.proofs.Cases.{on_lt, and_left, and_right}
 use Rattle.little.specs.Little.{num}
 use Rattle.bookformat.specs.declared.Span.{Span}
 use Rattle.bookformat.specs.Book.{accounts, records, base, table_fine, book_refusal, event_at, events_at, counts_at, split, flat, decode}
@@ -87,11 +87,6 @@ walk_step b n k z h = rw (add-one, drop-cons (flat (decode b)) k no_event (rw (f
 
 -- ---- what is answered for any bytes, in an accepted book
 
-pub entries_some : (b : List ℕ) (i : ℕ) → i < entries b → (base (accounts b) ≤ length b) × (i < accounts b)
-entries_some b i h =
-    let t = leb (base (accounts b)) (length b) in
-    on t (λ e. (leb-true _ _ e, rw e at h)) (λ e. absurd (not-suc-le-zero (rw e at h)))
-
 past : {A : Type 0} (l : List A) (i : ℕ) (d : A) → length l ≤ i → get_or l i d ≡ d
 past [] i d h = refl
 past (x ∷ l) zero d h = absurd (not-suc-le-zero h)
@@ -125,10 +120,6 @@ account_of_lem b i z =
       small = omega (arith, h);
       events = sym (past (decode b) i [] (omega (arith, decode_length b)));
     }))
-
--- what is answered says both
-pub record_told : (b : List ℕ) (k : ℕ) (r : Event) → r ≡ record_at b k → (r ≡ record_at b k) × (book_refusal b ≡ 0 → r ≡ record_of b k)
-record_told b k r e = (e, λ z. e ∙ record_of_lem b k z)
 
 pub account_told : (b : List ℕ) (i : ℕ) (s : Span) → s ≡ span_at b i → (s ≡ span_at b i) × (book_refusal b ≡ 0 → IsAccount b i s)
 account_told b i s e = (e, λ z. rw e (account_of_lem b i z))

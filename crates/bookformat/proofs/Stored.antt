@@ -13,10 +13,10 @@ use Rattle.rules.specs.Kinds.{closing}
 use Rattle.basics.proofs.Cases.{and_left, and_right}
 use Rattle.little.specs.Little.{top, Under}
 use Rattle.little.proofs.Stores.{sets_front}
-use Rattle.bookformat.specs.Book.{AccountList, longest, kind_fine, book_refusal, accounts, records, base, events_at, counts_at, decode, book_of, encode}
+use Rattle.bookformat.specs.Book.{longest, kind_fine, book_refusal, accounts, records, base, events_at, counts_at, decode, book_of, encode}
 use Rattle.bookformat.specs.Lent.{after, kinds_fine, write_refusal, lent, lent_list, counts_total, kinds_of, options_of, days_of, amounts_of, Left}
 use Rattle.bookformat.specs.Facts.{Storable, WriteRoom, Fits}
-use Rattle.bookformat.proofs.Told.{unchanged, write_facts}
+use Rattle.bookformat.proofs.Told.{write_facts}
 use Rattle.bookformat.proofs.Trips.{book_decoded, book_fine, flat_split, lengths_split, decode_parts, length_counts, length_events, length_book}
 
 pub length_lent : (n i : ℕ) (ks os ds ms : List ℕ) → length (lent n i ks os ds ms) ≡ n
@@ -57,10 +57,6 @@ gave_all b cs ks os ds ms cs2 ks2 os2 ds2 ms2 f c k o d m =
       days = rw p.1 (field_front (λ e. e.day) es (records b) ds ds2 n f.days d);
       amounts = rw p.1 (field_front (λ e. e.amount) es (records b) ms ms2 n f.amounts m);
     }
-
-pub kept_all : (n : ℕ) (l : AccountList) (cs ks os ds ms : List ℕ) → (n ≡ 0 → ⊥) → Left n l cs ks os ds ms cs ks os ds ms
-kept_all n l cs ks os ds ms h =
-    record { counts = unchanged n _ cs h; kinds = unchanged n _ ks h; options = unchanged n _ os h; days = unchanged n _ ds h; amounts = unchanged n _ ms h }
 
 -- ---- what is accepted for writing comes back
 

@@ -10,9 +10,6 @@ use Rattle.bookformat.specs.Book.{all}
 pub and_on : (a b : Bool) → a ≡ true → (a && b) ≡ b
 and_on a b e = ap (λ x. x && b) e
 
-pub and_off : (a b : Bool) → a ≡ false → (a && b) ≡ false
-and_off a b e = ap (λ x. x && b) e
-
 pub each : (l : List Bool) → all l ≡ true → Each l
 each [] e = tt
 each (a ∷ []) e = (e, tt)

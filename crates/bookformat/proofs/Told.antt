@@ -1,6 +1,6 @@
 -- What the tests tell, and what an answer was made of.
-use mathlib.Core.Path.{◌≡◌, refl, sym, ap, ◌∙◌}
-use mathlib.Core.Bool.{Bool, true, cond}
+use mathlib.Core.Path.{◌≡◌, refl}
+use mathlib.Core.Bool.{true, cond}
 use mathlib.Core.List.{List}
 use Prim.Native.Nat.{ℕ, zero, suc, ◌+◌, ◌*◌}
 use native.Mathlib.Omega.{arith}
@@ -57,13 +57,6 @@ stopped (suc n) h = refl
 pub unchanged : {A : Type 0} (n : ℕ) (new old : List A) → (n ≡ 0 → ⊥) → old ≡ after n new old
 unchanged zero new old h = absurd (h refl)
 unchanged (suc n) new old h = refl
-
-pub or_stop : (n x : ℕ) → (n ≡ 0 → ⊥) → n ≡ or_else n x
-or_stop zero x h = absurd (h refl)
-or_stop (suc n) x h = refl
-
-pub read_as : (b : List ℕ) (lc lk lo ld lm : ℕ) (t : Bool) → book_refusal b ≡ 0 → t ≡ long_enough b lc lk lo ld lm → cond t 0 22 ≡ read_refusal b lc lk lo ld lm
-read_as b lc lk lo ld lm t z e = ap (λ x. cond x 0 22) e ∙ sym (ap (λ n. or_else n (cond (long_enough b lc lk lo ld lm) 0 22)) z)
 
 pub or_zero : (n x : ℕ) → or_else n x ≡ 0 → (n ≡ 0) × (x ≡ 0)
 or_zero zero x e = (refl, e)

@@ -1,5 +1,5 @@
-// The book file: what its bytes mean, what is refused, and the two round trips, in specs/ and proofs/. Here are its limits,
-// the words of the answers and one record; the code for whole books is in `book`, `bookread` and `bookwrite`.
+// The book file: what its bytes mean, what is refused, and the two round trips, in specs/ and proofs/. Here are its limits
+// and sizes, the words of the answers, the header and one record; the code for whole books is in `book`, `bookread` and `bookwrite`.
 #![tactic(auto)]
 
 ghost use Rattle.std.specs.Prelude.{◌≡◌, ◌+◌, ◌<◌, ◌≤◌, length};

@@ -33,7 +33,7 @@ pub fn run_account(b: &[u8], i: usize, m: &mut [u64]) -> u64
     ensures { Ran m.new result (book_account b.now i) }
 {
     let s = book::account(b, i);
-    let start = 8 + 8 * (get(b, 0, 4) as usize);
+    let start = 8 + 8 * (get::<4>(b, 0) as usize);
     let mut k = s.first;
     let mut left = s.count;
     let mut refused: u64 = 0;

@@ -7,23 +7,38 @@ ghost use Rattle.std.proofs.lemmas.List.Edits.{sets};
 ghost use Rattle.bookformat.specs.Book.{most_accounts, base, events_at, counts_at, decode};
 ghost use Rattle.bookformat.specs.Lent.{kinds_of, options_of, days_of, amounts_of, read_refusal, Left, Gave};
 ghost use Rattle.bookformat.specs.Facts.{Fits};
+ghost use Rattle.bookread.specs.Memory.{SameSlices};
 ghost use Rattle.bookformat.specs.Answers.{outcome_number, outcome_of};
 
 use book::book_refusal;
 use bookformat::{Outcome, RECORD, accounts, base, event_at, records};
 use little::get;
 
-// 0, or the number of the refusal, for memory of these lengths.
-fn read_refusal(b: &[u8], lc: usize, lk: usize, lo: usize, ld: usize, lm: usize) -> u8
-    ensures { result ≡ read_refusal b.now lc lk lo ld lm }
+// Memory lent for an account list: how many records each account has, and a slice for each field of the records.
+#[derive(Drop)]
+pub struct LentMemory<'a> {
+    pub counts: &'a mut [u32],
+    pub kinds: &'a mut [u8],
+    pub options: &'a mut [u8],
+    pub days: &'a mut [u32],
+    pub amounts: &'a mut [u64],
+}
+
+// 0, or the number of the refusal, for this memory.
+fn read_refusal(b: &[u8], memory: &LentMemory) -> u8
+    ensures { let m = memory.now in result ≡ read_refusal b.now (length m.counts.now) (length m.kinds.now) (length m.options.now) (length m.days.now) (length m.amounts.now) }
 {
     let n = book_refusal(b);
     if n != 0 {
         return n;
     }
-    let a = accounts(b);
     let r = records(b);
-    if a <= lc && r <= lk && r <= lo && r <= ld && r <= lm {
+    if accounts(b) <= memory.counts.len()
+        && r <= memory.kinds.len()
+        && r <= memory.options.len()
+        && r <= memory.days.len()
+        && r <= memory.amounts.len()
+    {
         0
     } else {
         22
@@ -40,7 +55,8 @@ fn take_counts(b: &[u8], n: usize, counts: &mut [u32])
     }
 }
 
-// The n records from byte p on, each field into its slice.
+// The n records from byte p on, each field into its slice. Slices, since a loop over the lent struct would have to keep the
+// length and the identity of each of its slices, which is no plainer.
 fn take_records(
     b: &[u8],
     p: usize,
@@ -66,46 +82,34 @@ fn take_records(
 }
 
 // The list of a book that passed, into memory that is long enough.
-fn take_book(
-    b: &[u8],
-    counts: &mut [u32],
-    kinds: &mut [u8],
-    options: &mut [u8],
-    days: &mut [u32],
-    amounts: &mut [u64],
-)
-    requires { Fits b.now (length counts.old) (length kinds.old) (length options.old) (length days.old) (length amounts.old) }
-    ensures { Left 0 (decode b.now) counts.old kinds.old options.old days.old amounts.old counts.new kinds.new options.new days.new amounts.new }
+fn take_book(b: &[u8], memory: &mut LentMemory)
+    requires { let m = memory.old in Fits b.now (length m.counts.now) (length m.kinds.now) (length m.options.now) (length m.days.now) (length m.amounts.now) }
+    ensures left { let m = memory.old in let n = memory.new in Left 0 (decode b.now) m.counts.now m.kinds.now m.options.now m.days.now m.amounts.now n.counts.now n.kinds.now n.options.now n.days.now n.amounts.now }
+    ensures same { SameSlices memory.old memory.new }
 {
     let a = accounts(b);
-    take_counts(b, a, counts);
-    take_records(b, base(a), records(b), kinds, options, days, amounts);
+    take_counts(b, a, memory.counts);
+    take_records(
+        b,
+        base(a),
+        records(b),
+        memory.kinds,
+        memory.options,
+        memory.days,
+        memory.amounts,
+    );
 }
 
 // Reads the account list of a book, or answers 20, 21 or 22 and leaves all memory lent as it was.
-// Five slices: of a struct that lends them a contract tells what is left only by places in nested pairs, which is no plainer.
-pub fn read(
-    b: &[u8],
-    counts: &mut [u32],
-    kinds: &mut [u8],
-    options: &mut [u8],
-    days: &mut [u32],
-    amounts: &mut [u64],
-) -> Outcome
-    ensures gave { Gave b.now counts.old kinds.old options.old days.old amounts.old counts.new kinds.new options.new days.new amounts.new (outcome_number result) }
+pub fn read(b: &[u8], memory: &mut LentMemory) -> Outcome
+    ensures gave { let m = memory.old in let n = memory.new in Gave b.now m.counts.now m.kinds.now m.options.now m.days.now m.amounts.now n.counts.now n.kinds.now n.options.now n.days.now n.amounts.now (outcome_number result) }
     ensures outcome { result ≡ outcome_of (outcome_number result) }
+    ensures same { SameSlices memory.old memory.new }
 {
-    let n = read_refusal(
-        b,
-        counts.len(),
-        kinds.len(),
-        options.len(),
-        days.len(),
-        amounts.len(),
-    );
+    let n = read_refusal(b, memory);
     if n != 0 {
         return Outcome::Stopped(n);
     }
-    take_book(b, counts, kinds, options, days, amounts);
+    take_book(b, memory);
     Outcome::Done
 }

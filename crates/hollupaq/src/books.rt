@@ -8,6 +8,8 @@ ghost use Rattle.hollupaq.specs.Library.{told};
 ghost use Rattle.hollupaq.specs.Books.{Stored};
 
 use crate::ACCEPTED;
+use bookread::LentMemory;
+use bookwrite::LentList;
 use little::get;
 
 // The number at byte p of the header, where the book is not refused.
@@ -19,7 +21,7 @@ fn header_number(book: &[u8], p: usize) -> u64
     if n != 0 {
         return n as u64;
     }
-    ACCEPTED + get(book, p, 4)
+    ACCEPTED + get::<4>(book, p)
 }
 
 // The test of a book: 20 or 21 where it is refused, else 256 and how many accounts it has.
@@ -50,7 +52,14 @@ pub extern "C" fn hollupaq_book_read(
 ) -> u8
     ensures { Gave book.now counts.old kinds.old options.old days.old amounts.old counts.new kinds.new options.new days.new amounts.new result }
 {
-    let o = bookread::read(book, counts, kinds, options, days, amounts);
+    let mut memory = LentMemory {
+        counts,
+        kinds,
+        options,
+        days,
+        amounts,
+    };
+    let o = bookread::read(book, &mut memory);
     o.number()
 }
 
@@ -67,10 +76,17 @@ pub extern "C" fn hollupaq_book_write(
 ) -> u64
     ensures { Stored counts.now kinds.now options.now days.now amounts.now out.old out.new result }
 {
-    let o = bookwrite::write(counts, kinds, options, days, amounts, out);
+    let list = LentList {
+        counts,
+        kinds,
+        options,
+        days,
+        amounts,
+    };
+    let o = bookwrite::write(list, out);
     let n = o.number();
     if n != 0 {
         return n as u64;
     }
-    ACCEPTED + (8 + 8 * counts.len() + 16 * kinds.len()) as u64
+    ACCEPTED + bookformat::size(counts.len(), kinds.len()) as u64
 }

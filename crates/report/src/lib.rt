@@ -30,7 +30,7 @@ const FIRST_LINE: usize = 39;
 const LINE: usize = 113;
 
 // Room for every text.
-pub const ROOM: usize = FIRST_LINE + LINE * (MOST_ACCOUNTS as usize);
+pub const ROOM: usize = FIRST_LINE + LINE * MOST_ACCOUNTS;
 
 // Where an account stands after its records. What is owed is charged less credits, which may be negative.
 #[derive(Clone, Copy)]
@@ -187,7 +187,7 @@ pub fn report(b: &[u8], out: &mut [u8]) -> Printed
     if refusal != 0 {
         return put_refusal(out, refusal);
     }
-    let n = get(b, 0, 4) as usize;
+    let n = get::<4>(b, 0) as usize;
     if is_short(b, n, out.len()) {
         return Printed::Refused(22);
     }

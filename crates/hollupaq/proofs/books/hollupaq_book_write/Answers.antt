@@ -10,29 +10,8 @@ returns-then-n-ne0 c =
     rw e (stored_not s.counts.now s.kinds.now s.options.now s.days.now s.amounts.now s.out.now _ _ c.write-o.ensures.wrote_book
     (rw e at c.if-n-ne0.true))
 
-pub overflow_add-result : goal.overflow_add-result
-overflow_add-result c =
-    let s = c.args in
-    let z = stored_sizes s.counts.now s.kinds.now s.options.now s.days.now s.amounts.now s.out.now _ _ c.write-o.ensures.wrote_book
-    (sym c.number-n.ensures ∙ c.if-n-ne0.false) in
-    omega (arith, z)
-
-pub overflow_mul-result-2 : goal.overflow_mul-result-2
-overflow_mul-result-2 c =
-    let s = c.args in
-    let z = stored_sizes s.counts.now s.kinds.now s.options.now s.days.now s.amounts.now s.out.now _ _ c.write-o.ensures.wrote_book
-    (sym c.number-n.ensures ∙ c.if-n-ne0.false) in
-    omega (arith, z)
-
-pub overflow_add-result-2 : goal.overflow_add-result-2
-overflow_add-result-2 c =
-    let s = c.args in
-    let z = stored_sizes s.counts.now s.kinds.now s.options.now s.days.now s.amounts.now s.out.now _ _ c.write-o.ensures.wrote_book
-    (sym c.number-n.ensures ∙ c.if-n-ne0.false) in
-    omega (arith, z)
-
-pub overflow_add-result-3 : goal.overflow_add-result-3
-overflow_add-result-3 c =
+pub size-requires : goal.size-requires
+size-requires c =
     let s = c.args in
     let z = stored_sizes s.counts.now s.kinds.now s.options.now s.days.now s.amounts.now s.out.now _ _ c.write-o.ensures.wrote_book
     (sym c.number-n.ensures ∙ c.if-n-ne0.false) in
@@ -41,5 +20,5 @@ overflow_add-result-3 c =
 pub returns : goal.returns
 returns c =
     let s = c.args in
-    stored s.counts.now s.kinds.now s.options.now s.days.now s.amounts.now s.out.now _ _ c.write-o.ensures.wrote_book
-    (sym c.number-n.ensures ∙ c.if-n-ne0.false)
+    rw c.size.ensures (stored s.counts.now s.kinds.now s.options.now s.days.now s.amounts.now s.out.now _ _ c.write-o.ensures.wrote_book
+    (sym c.number-n.ensures ∙ c.if-n-ne0.false))
