@@ -5,20 +5,19 @@
 
 ghost use Rattle.std.specs.Prelude.{◌≡◌, ◌≤◌, ◌<◌, get_or, IfOk, IfErr};
 ghost use Rattle.basics.specs.Machine.{largest};
+ghost use Rattle.rules.specs.Refusals.{refusal_of};
 ghost use Rattle.rules.specs.Tariff.{lines_from, energy_by, row_of, basic_of, cents_of, bill_refusal, bill_of, bill_lines, no_line};
 ghost use Rattle.tariff.specs.Allowed.{Allowed};
 ghost use Rattle.tariff.specs.Blocks.{start_of};
 
 use rules::limits::{LAST_CLASS, MOST_USAGE};
-use rules::{Billed, Block, Line};
+use rules::refusals::Refusal;
+use rules::{Block, Line};
 
 // How many schedules there are, one for each class, and how many blocks each has.
 const CLASSES: usize = LAST_CLASS as usize;
 
 const BLOCKS: usize = 3;
-
-// The number that refuses a class or a usage.
-const REFUSED: u8 = 23;
 
 // What a class pays: its basic charge in cents, and its blocks.
 #[derive(Clone, Copy)]
@@ -101,15 +100,15 @@ struct Metered {
 }
 
 impl Metered {
-    // Those of a class and a usage, or the number that refuses them.
-    fn of(class: u8, usage: u64) -> Result<Metered, u8>
+    // Those of a class and a usage, if they are not refused.
+    fn of(class: u8, usage: u64) -> Result<Metered, Refusal>
         ensures ok { IfOk result (λ m. (m.class ≡ class) × (m.usage ≡ usage)) }
-        ensures err { IfErr result (λ n. (n ≡ bill_refusal class usage) × (0 < n)) }
+        ensures err { IfErr result (λ r. (r ≡ refusal_of (bill_refusal class usage)) × (0 < bill_refusal class usage)) }
     {
         if (1..=LAST_CLASS).contains(&class) && usage <= MOST_USAGE {
             Ok(Metered { class, usage })
         } else {
-            Err(REFUSED)
+            Err(Refusal::NoTariff)
         }
     }
 
@@ -132,13 +131,10 @@ impl Metered {
 }
 
 // The bill of a class and a usage.
-pub fn bill(class: u8, usage: u64) -> Billed
+pub fn bill(class: u8, usage: u64) -> Result<u64, Refusal>
     ensures { result ≡ bill_of class usage }
 {
-    match Metered::of(class, usage) {
-        Ok(m) => Billed::Cents(m.cents()),
-        Err(n) => Billed::Refused(n),
-    }
+    Ok(Metered::of(class, usage)?.cents())
 }
 
 // Line i of that bill, counted from 0: a line for each block. Past the last, and where the bill is refused, one of no kilowatt-hours.
