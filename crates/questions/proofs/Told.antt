@@ -1,7 +1,7 @@
 -- What the memory of a history answers is what the history says: the law of each question.
 use Prim.Native.Nat.{ℕ, ◌≤◌}
 use mathlib.Core.Path.{◌≡◌, refl, ap, ◌∙◌}
-use mathlib.Core.Bool.{Bool, true, false}
+use mathlib.Core.Bool.{false}
 use mathlib.Core.List.{map, map-map}
 use lib.ListN.{length}
 use Rattle.basics.proofs.Cases.{on_lt}
@@ -14,7 +14,10 @@ use Rattle.rules.specs.Notice.{notice_live}
 use Rattle.rules.specs.Medical.{certified}
 use Rattle.rules.specs.Arrangement.{in_force}
 use Rattle.rules.specs.Accepted.{day_rows, day_refusal}
+use Rattle.rules.specs.Answer.{answered}
+use Rattle.rules.proofs.Numbered.{number_answered, told_answered, value_answered, day_rows_in_table}
 use Rattle.ledger.specs.Ledger.{shown_item}
+use native.Mathlib.Omega.{arith}
 use Rattle.account.specs.State.{State, words_of, account_of}
 use Rattle.questions.specs.Questions.{
   asked_of,
@@ -24,37 +27,27 @@ use Rattle.questions.specs.Questions.{
   service_in,
   open_in,
   count_in,
-  told_cents,
-  told_truth,
   arrears_on,
   in_force_on,
   notice_live_on,
   certified_on,
+  Told,
   Tells,
   Says,
 }
 use Rattle.questions.proofs.Laws.{Laws}
 
 -- a day that no number refuses is not before the last; of one that is refused nothing is told
-told_cents_lem : (last t c d : ℕ) → (last ≤ t → c ≡ d) → Tells (told_cents (day_rows last t 0) c) (day_rows last t 0) d
-told_cents_lem last t c d same =
-    on_lt final_day t
-    (λ q l. rw q (record { told = refl; number = refl; cents = refl }))
-    (λ q l. on_lt t last
-    (λ p m. rw (q, p) (record { told = refl; number = refl; cents = refl }))
-    (λ p m. rw (q, p) (record { told = refl; number = refl; cents = same m })))
-
-said : (b : Bool) → Says (told_truth 0 b) 0 b
-said true = record { told = refl; number = refl; yes = refl }
-said false = record { told = refl; number = refl; yes = refl }
-
-told_truth_lem : (last t : ℕ) (a b : Bool) → (last ≤ t → a ≡ b) → Says (told_truth (day_rows last t 0) a) (day_rows last t 0) b
-told_truth_lem last t a b same =
-    on_lt final_day t
-    (λ q l. rw q (record { told = refl; number = refl; yes = refl }))
-    (λ q l. on_lt t last
-    (λ p m. rw (q, p) (record { told = refl; number = refl; yes = refl }))
-    (λ p m. rw (q, p, same m) (said b)))
+told_lem : {A : Type 0} (none : A) (last t : ℕ) (x y : A) → (last ≤ t → x ≡ y) → Told none (answered (day_rows last t 0) x) (day_rows last t 0) y
+told_lem none last t x y same =
+    record {
+      told = told_answered (day_rows last t 0) x;
+      number = number_answered (day_rows last t 0) x (day_rows_in_table last t 0 (omega arith));
+      value =
+          value_answered (day_rows last t 0) none x
+          ∙ on_lt final_day t (λ q l. rw q refl)
+          (λ q l. on_lt t last (λ p m. rw (q, p) refl) (λ p m. rw (q, p) (same m)));
+    }
 
 module _ (h : History) (k : Laws h) where
   -- what is asked of the memory of a history
@@ -87,13 +80,13 @@ module _ (h : History) (k : Laws h) where
   count_is = asked_is _ _ ∙ k.on_ledger.count_is
 
   pub arrears_are : (t : ℕ) → Tells (arrears_on (words_of (account_of h)) t) (day_refusal h t) (arrears h t)
-  arrears_are t = rw (asked_is _ _) (told_cents_lem (last_posted h) t _ _ (λ l. k.on_ledger.arrears_are t))
+  arrears_are t = rw (asked_is _ _) (told_lem 0 (last_posted h) t _ _ (λ l. k.on_ledger.arrears_are t))
 
   pub in_force_is : (t : ℕ) → Says (in_force_on (words_of (account_of h)) t) (day_refusal h t) (in_force h t)
-  in_force_is t = rw (asked_is _ _) (told_truth_lem (last_posted h) t _ _ (λ l. k.on_arrangement.in_force_is t))
+  in_force_is t = rw (asked_is _ _) (told_lem false (last_posted h) t _ _ (λ l. k.on_arrangement.in_force_is t))
 
   pub notice_is : (t : ℕ) → Says (notice_live_on (words_of (account_of h)) t) (day_refusal h t) (notice_live h t)
-  notice_is t = rw (asked_is _ _) (told_truth_lem (last_posted h) t _ _ (k.on_collection.live_is t))
+  notice_is t = rw (asked_is _ _) (told_lem false (last_posted h) t _ _ (k.on_collection.live_is t))
 
   pub certified_is : (t : ℕ) → Says (certified_on (words_of (account_of h)) t) (day_refusal h t) (certified h t)
-  certified_is t = rw (asked_is _ _) (told_truth_lem (last_posted h) t _ _ (k.on_medical.certified_is t))
+  certified_is t = rw (asked_is _ _) (told_lem false (last_posted h) t _ _ (k.on_medical.certified_is t))

@@ -1,9 +1,12 @@
 -- What an account answers, of any memory: what is no account owes and holds nothing, has no open items and is closed, and every
 -- question for a day is refused with 0.
-use Rattle.std.specs.Prelude.{ℕ, ◌-◌, ◌≡◌, Bool, true, false, cond, ◌&&◌, List, [], eqb, ℤ, pos}
+use Rattle.std.specs.Prelude.{ℕ, ◌-◌, ◌≡◌, Bool, false, cond, List, [], eqb, ℤ, pos, Result, Err}
 use Rattle.std.proofs.Math.IntN.{sub_ℕ}
 use Rattle.rules.specs.declared.Service.{Service}
 use Rattle.rules.specs.declared.Service.TheVariants.{Closed}
+use Rattle.rules.specs.declared.refusals.Refusal.{Refusal}
+use Rattle.rules.specs.declared.refusals.Refusal.TheVariants.{NoAccount}
+use Rattle.rules.specs.Answer.{answered, number_of, is_told, value_or}
 use Rattle.rules.specs.Accepted.{day_rows}
 use Rattle.collection.specs.Collection.{service_by, live_by}
 use Rattle.medical.specs.Medical.{certified_by}
@@ -11,10 +14,6 @@ use Rattle.arrangement.specs.Arrangement.{in_force_by}
 use Rattle.ledger.specs.declared.OpenItem.{OpenItem}
 use Rattle.ledger.specs.Ledger.{credits_by, arrears_by, open_by}
 use Rattle.account.specs.State.{State, state_on, passes}
-use Rattle.questions.specs.declared.Amount.{Amount}
-use Rattle.questions.specs.declared.Amount.TheVariants as amount
-use Rattle.questions.specs.declared.Truth.{Truth}
-use Rattle.questions.specs.declared.Truth.TheVariants as truth
 
 -- what is asked of an account, and the answer of what is none
 unfoldable pub asked_of : {A : Type 0} → List ℕ → (State → A) → A → A
@@ -49,66 +48,34 @@ count_in m = asked_of m (λ s. s.ledger.made - s.ledger.closed) 0
 abbrev pub day_refusal_by : State → ℕ → ℕ
 day_refusal_by s t = day_rows s.last t 0
 
--- a sum, or a yes or no, where no number refuses
-abbrev pub told_cents : ℕ → ℕ → Amount
-told_cents n c = cond (eqb n 0) (amount.Cents c) (amount.Refused n)
+-- what is told of an account for a day t that no number refuses
+abbrev pub told_on : {A : Type 0} → List ℕ → ℕ → (State → A) → Result A Refusal
+told_on m t ask = asked_of m (λ s. answered (day_refusal_by s t) (ask s)) (Err NoAccount)
 
-abbrev pub told_truth : ℕ → Bool → Truth
-told_truth n b = cond (eqb n 0) (cond b truth.Yes truth.No) (truth.Refused n)
-
-abbrev pub arrears_on : List ℕ → ℕ → Amount
-arrears_on m t = asked_of m (λ s. told_cents (day_refusal_by s t) (arrears_by s.ledger t)) (amount.Refused 0)
+abbrev pub arrears_on : List ℕ → ℕ → Result ℕ Refusal
+arrears_on m t = told_on m t (λ s. arrears_by s.ledger t)
 
 -- an arrangement is in force, a notice is live, a certificate is live
-abbrev pub in_force_on : List ℕ → ℕ → Truth
-in_force_on m t = asked_of m (λ s. told_truth (day_refusal_by s t) (in_force_by s.arrangement t)) (truth.Refused 0)
+abbrev pub in_force_on : List ℕ → ℕ → Result Bool Refusal
+in_force_on m t = told_on m t (λ s. in_force_by s.arrangement t)
 
-abbrev pub notice_live_on : List ℕ → ℕ → Truth
-notice_live_on m t = asked_of m (λ s. told_truth (day_refusal_by s t) (live_by s.collection.notice t)) (truth.Refused 0)
+abbrev pub notice_live_on : List ℕ → ℕ → Result Bool Refusal
+notice_live_on m t = told_on m t (λ s. live_by s.collection.notice t)
 
-abbrev pub certified_on : List ℕ → ℕ → Truth
-certified_on m t = asked_of m (λ s. told_truth (day_refusal_by s t) (certified_by s.medical t)) (truth.Refused 0)
+abbrev pub certified_on : List ℕ → ℕ → Result Bool Refusal
+certified_on m t = told_on m t (λ s. certified_by s.medical t)
 
--- ---- document 01's number and value of such an answer, by cases
--- something is told; else a number refuses, which is 0 where the memory is no account
-abbrev pub amount_told : Amount → Bool
-amount_told (amount.Cents n) = true
-amount_told (amount.Refused n) = false
-
--- the number that refuses, 0 for none
-abbrev pub amount_number : Amount → ℕ
-amount_number (amount.Cents n) = 0
-amount_number (amount.Refused n) = n
-
--- the cents, 0 where it is refused
-abbrev pub amount_cents : Amount → ℕ
-amount_cents (amount.Cents n) = n
-amount_cents (amount.Refused n) = 0
-
-abbrev pub truth_told : Truth → Bool
-truth_told truth.Yes = true
-truth_told truth.No = true
-truth_told (truth.Refused n) = false
-
-abbrev pub truth_number : Truth → ℕ
-truth_number truth.Yes = 0
-truth_number truth.No = 0
-truth_number (truth.Refused n) = n
-
--- yes; not where it is refused
-abbrev pub truth_yes : Truth → Bool
-truth_yes truth.Yes = true
-truth_yes truth.No = false
-truth_yes (truth.Refused n) = false
+-- ---- document 01's number and value of such an answer
+-- something is told, or a number refuses, which is 0 where the memory is no account; the value, and `none` where it is refused
+pub record Told {A : Type 0} (none : A) (r : Result A Refusal) (n : ℕ) (x : A) : Type 0 where
+  pub told : is_told r ≡ eqb n 0
+  pub number : number_of r ≡ n
+  pub value : value_or none r ≡ cond (eqb n 0) x none
 
 -- the answer tells c, or is refused with n where n is not 0
-pub record Tells (a : Amount) (n c : ℕ) : Type 0 where
-  pub told : amount_told a ≡ eqb n 0
-  pub number : amount_number a ≡ n
-  pub cents : amount_cents a ≡ cond (eqb n 0) c 0
+abbrev pub Tells : Result ℕ Refusal → ℕ → ℕ → Type 0
+Tells r n c = Told 0 r n c
 
 -- the answer says whether b, or is refused with n where n is not 0
-pub record Says (x : Truth) (n : ℕ) (b : Bool) : Type 0 where
-  pub told : truth_told x ≡ eqb n 0
-  pub number : truth_number x ≡ n
-  pub yes : truth_yes x ≡ (eqb n 0 && b)
+abbrev pub Says : Result Bool Refusal → ℕ → Bool → Type 0
+Says r n b = Told false r n b

@@ -9,33 +9,22 @@ ghost use Rattle.questions.specs.Questions.{owed_in, held_in, required_in, servi
 
 use account::passes;
 use account::spans::{COLLECTION, DEPOSIT, LEDGER, MEDICAL, WORDS};
+use collection::Collection;
 pub use days::{arrears, certified, in_force, notice_live};
+use deposit::Deposit;
 use ledger::OpenItem;
 use rules::Service;
-
-// What a question for a day gives: a sum in cents, or the number that refuses the day.
-#[derive(Clone, Copy)]
-pub enum Amount {
-    Cents(u64),
-    Refused(u8),
-}
-
-// What a yes-or-no question for a day gives.
-#[derive(Clone, Copy)]
-pub enum Truth {
-    Yes,
-    No,
-    Refused(u8),
-}
+use span::Part;
 
 // What is owed, negative where there is credit.
 pub fn owed(m: &[u64]) -> i64
     ensures { result ≡ owed_in m.now }
 {
     if passes(m) {
-        return ledger::owed(&m[LEDGER..WORDS]);
+        ledger::owed(&m[LEDGER..WORDS])
+    } else {
+        0
     }
-    0
 }
 
 // The deposit held.
@@ -43,10 +32,10 @@ pub fn held(m: &[u64]) -> u64
     ensures { result ≡ held_in m.now }
 {
     if passes(m) {
-        let d = deposit::load(&m[DEPOSIT..MEDICAL]);
-        return d.held;
+        Deposit::load(&m[DEPOSIT..MEDICAL]).held
+    } else {
+        0
     }
-    0
 }
 
 // The deposit required.
@@ -54,20 +43,20 @@ pub fn required(m: &[u64]) -> u64
     ensures { result ≡ required_in m.now }
 {
     if passes(m) {
-        let d = deposit::load(&m[DEPOSIT..MEDICAL]);
-        return d.required;
+        Deposit::load(&m[DEPOSIT..MEDICAL]).required
+    } else {
+        0
     }
-    0
 }
 
 pub fn service(m: &[u64]) -> Service
     ensures { result ≡ service_in m.now }
 {
     if passes(m) {
-        let c = collection::load(&m[COLLECTION..DEPOSIT]);
-        return c.service();
+        Collection::load(&m[COLLECTION..DEPOSIT]).service()
+    } else {
+        Service::Closed
     }
-    Service::Closed
 }
 
 // How many items are open.
@@ -75,10 +64,10 @@ pub fn open_count(m: &[u64]) -> u64
     ensures { result ≡ count_in m.now }
 {
     if passes(m) {
-        let s = ledger::sums_of(&m[LEDGER..WORDS]);
-        return s.open_count;
+        ledger::sums_of(&m[LEDGER..WORDS]).open_count
+    } else {
+        0
     }
-    0
 }
 
 // The day and the unpaid part of open item i, from 0 in the order posted; both 0 past the last.
@@ -86,7 +75,8 @@ pub fn open_item(m: &[u64], i: usize) -> OpenItem
     ensures { result ≡ get_or (open_in m.now) i no_item }
 {
     if passes(m) {
-        return ledger::open_item(&m[LEDGER..WORDS], i as u64);
+        ledger::open_item(&m[LEDGER..WORDS], i as u64)
+    } else {
+        OpenItem { day: 0, unpaid: 0 }
     }
-    OpenItem { day: 0, unpaid: 0 }
 }

@@ -6,7 +6,7 @@ pub slice_bounds-sums_of-end : goal.slice_bounds-sums_of-end
 slice_bounds-sums_of-end c = omega (arith, size_of _ c.passes.ensures c.if-passes.true)
 
 pub returns-then-passes : goal.returns-then-passes
-returns-then-passes c = asked_yes _ _ _ c.passes.ensures c.if-passes.true (rw c.sums_of-s.ensures)
+returns-then-passes c = asked_yes _ _ _ c.passes.ensures c.if-passes.true (rw (c.sums_of.ensures))
 
-pub returns : goal.returns
-returns c = asked_no _ _ _ c.passes.ensures c.if-passes.false
+pub returns-else-passes : goal.returns-else-passes
+returns-else-passes c = asked_no _ _ _ c.passes.ensures c.if-passes.false

@@ -12,5 +12,5 @@ pub returns-then-passes : goal.returns-then-passes
 returns-then-passes c =
     c.open_item.ensures ∙ ap (λ l. get_or l c.args.i no_item) (asked_yes _ _ _ c.passes.ensures c.if-passes.true refl)
 
-pub returns : goal.returns
-returns c = ap (λ l. get_or l c.args.i no_item) (asked_no _ _ _ c.passes.ensures c.if-passes.false)
+pub returns-else-passes : goal.returns-else-passes
+returns-else-passes c = ap (λ l. get_or l c.args.i no_item) (asked_no _ _ _ c.passes.ensures c.if-passes.false)

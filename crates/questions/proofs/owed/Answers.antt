@@ -18,5 +18,5 @@ returns-then-passes c =
     let z : to_z w64 (of_z w64 r) ≡ r = search rules in
     z ∙ asked_yes _ _ _ c.passes.ensures c.if-passes.true c.owed.ensures
 
-pub returns : goal.returns
-returns c = asked_no _ _ _ c.passes.ensures c.if-passes.false
+pub returns-else-passes : goal.returns-else-passes
+returns-else-passes c = asked_no _ _ _ c.passes.ensures c.if-passes.false

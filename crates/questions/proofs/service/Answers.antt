@@ -6,9 +6,7 @@ pub slice_bounds-load-end : goal.slice_bounds-load-end
 slice_bounds-load-end c = omega (arith, size_of _ c.passes.ensures c.if-passes.true)
 
 pub returns-then-passes : goal.returns-then-passes
-returns-then-passes c =
-    asked_yes _ _ _ c.passes.ensures c.if-passes.true
-    (rw (c.service.ensures, c.load-c.ensures))
+returns-then-passes c = asked_yes _ _ _ c.passes.ensures c.if-passes.true (rw (c.service.ensures, c.load.ensures))
 
-pub returns : goal.returns
-returns c = asked_no _ _ _ c.passes.ensures c.if-passes.false
+pub returns-else-passes : goal.returns-else-passes
+returns-else-passes c = asked_no _ _ _ c.passes.ensures c.if-passes.false

@@ -2,16 +2,14 @@ use native.Mathlib.Omega.{arith}
 use Rattle.questions.proofs.Asked.{size_of, asked_yes, asked_no}
 use Rattle.questions.proofs.days.arrears.Goals as goal
 
-pub day_refusal-n-requires : goal.day_refusal-n-requires
-day_refusal-n-requires c = size_of _ c.passes.ensures c.if-passes.true
-
 pub slice_bounds-arrears-end : goal.slice_bounds-arrears-end
 slice_bounds-arrears-end c = omega (arith, size_of _ c.passes.ensures c.if-passes.true)
 
-pub returns-then-passes : goal.returns-then-passes
-returns-then-passes c =
-    asked_yes _ _ _ c.passes.ensures c.if-passes.true
-    (rw (c.told_cents.ensures, c.arrears-cents.ensures, c.day_refusal-n.ensures, c.wide-day.ensures))
+pub told-requires : goal.told-requires
+told-requires c = size_of _ c.passes.ensures c.if-passes.true
 
-pub returns : goal.returns
-returns c = asked_no _ _ _ c.passes.ensures c.if-passes.false
+pub returns-then-passes : goal.returns-then-passes
+returns-then-passes c = asked_yes _ _ _ c.passes.ensures c.if-passes.true (rw (c.told.ensures, c.arrears.ensures, c.from-day.ensures))
+
+pub returns-else-passes : goal.returns-else-passes
+returns-else-passes c = asked_no _ _ _ c.passes.ensures c.if-passes.false
