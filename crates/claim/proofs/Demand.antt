@@ -8,8 +8,9 @@ use lib.Dec.{eqb}
 use lib.ListN.{length}
 use Rattle.basics.proofs.Cases.{on}
 use Rattle.rules.specs.declared.Event.{Event}
-use Rattle.rules.specs.declared.Answer.{Answer}
-use Rattle.rules.specs.declared.Answer.TheVariants.{Accepted, Refused}
+use Rattle.std.proofs.Common.{Ok, Err}
+use Rattle.rules.specs.declared.refusals.Refusal.{Refusal}
+use Rattle.rules.specs.Answer.{Answer}
 use Rattle.rules.specs.History.{History}
 use Rattle.rules.specs.Accepted.{refusal, offered, accepted_after, accepted, Lawful, answers_after, cut_on}
 use Rattle.rules.proofs.Lawful.{accepted_lawful, numbers_are, receipts_are, money}
@@ -25,7 +26,7 @@ use Rattle.claim.specs.Claim.{accepts, refused_in, ClaimOf, Claim, LeftClaim}
 use Rattle.claim.proofs.Compose.{answer_found, run_same, answers_same, fresh_is}
 
 -- an answer accepts exactly where no number refuses
-accepts_is : (b : Bool) (r n : ℕ) → accepts (cond b (Accepted r) (Refused n)) ≡ b
+accepts_is : (b : Bool) (r : ℕ) (n : Refusal) → accepts (cond {A = Answer} b (Ok r) (Err n)) ≡ b
 accepts_is true r n = refl
 accepts_is false r n = refl
 

@@ -7,7 +7,7 @@ use lib.ListN.{length, take, drop, replicate, length-append}
 use lib.Seq.{take_at, drop-append-add}
 use Rattle.basics.proofs.Cases.{on_eq}
 use Rattle.span.specs.Span.{joined}
-use Rattle.rules.specs.declared.Answer.{Answer}
+use Rattle.rules.specs.Answer.{Answer}
 use Rattle.account.specs.State.{account_size, fresh_words}
 use Rattle.account.specs.Post.{answer_to, words_after}
 use Rattle.account.specs.Many.{account_at}

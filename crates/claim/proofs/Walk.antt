@@ -6,7 +6,7 @@ use mathlib.Core.List.{List, [], ◌∷◌, ◌++◌}
 use native.Mathlib.Omega.{arith}
 use lib.ListN.{length}
 use Rattle.rules.specs.declared.Event.{Event}
-use Rattle.rules.specs.declared.Answer.{Answer}
+use Rattle.rules.specs.Answer.{Answer}
 use Rattle.account.specs.State.{account_size, fresh_words, passes, Fit}
 use Rattle.account.specs.Post.{answer_to, words_after, Judges, Leaves}
 use Rattle.account.proofs.Exits.{passed_size, passed_fit, leaves_judged}

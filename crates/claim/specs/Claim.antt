@@ -2,13 +2,11 @@
 --
 -- The list is posted to a fresh account, each event to the account that the posting before it returned or left. The left
 -- sides below are what the account answers; the right sides speak of the events alone (crates/rules/specs).
-use Rattle.std.specs.Prelude.{ℕ, ◌+◌, ◌≤◌, ◌≡◌, Bool, true, false, cond, List, [], ◌∷◌, map, pos, ◌-ℤ◌, length}
+use Rattle.std.specs.Prelude.{ℕ, ◌+◌, ◌≤◌, ◌≡◌, Bool, true, false, cond, List, [], ◌∷◌, map, pos, ◌-ℤ◌, length, Ok, Err}
 use Rattle.std.proofs.Math.IntN.{sub_ℕ}
 use Rattle.rules.specs.declared.Event.{Event}
-use Rattle.rules.specs.declared.Answer.{Answer}
-use Rattle.rules.specs.declared.Answer.TheVariants.{Accepted, Refused}
+use Rattle.rules.specs.Answer.{Answer, number_of, receipt_of}
 use Rattle.rules.specs.Kinds.{bill, payment, deposit_paid, payout}
-use Rattle.rules.specs.Answer.{number_of, receipt_of}
 use Rattle.rules.specs.Limits.{final_day}
 use Rattle.rules.specs.History.{History, last_posted, total}
 use Rattle.rules.specs.Deposit.{held, required}
@@ -26,8 +24,8 @@ use Rattle.claim.specs.Run.{run, answers, LeftBy}
 
 -- an answer accepts or refuses
 abbrev pub accepts : Answer → Bool
-accepts (Accepted r) = true
-accepts (Refused n) = false
+accepts (Ok r) = true
+accepts (Err n) = false
 
 -- how many answers refuse
 abbrev pub refused_in : List Answer → ℕ

@@ -2,7 +2,7 @@
 use Rattle.std.specs.Prelude.{ℕ, ◌<◌, ◌≡◌, cond, List, [], ◌∷◌, eqb, replicate}
 use Rattle.span.specs.Span.{joined}
 use Rattle.rules.specs.declared.Event.{Event}
-use Rattle.rules.specs.declared.Answer.{Answer}
+use Rattle.rules.specs.Answer.{Answer}
 use Rattle.rules.specs.Accepted.{accepted}
 use Rattle.account.specs.State.{fresh_words}
 use Rattle.account.specs.Many.{account_at, LeavesAt}

@@ -1,7 +1,7 @@
 -- A list of events posted one after another: to what memory, with what answers.
 use Rattle.std.specs.Prelude.{ℕ, ◌≡◌, List, [], ◌∷◌}
 use Rattle.rules.specs.declared.Event.{Event}
-use Rattle.rules.specs.declared.Answer.{Answer}
+use Rattle.rules.specs.Answer.{Answer}
 use Rattle.account.specs.Post.{answer_to, words_after}
 
 -- in the order posted: each event to the account that the posting before it returned or left

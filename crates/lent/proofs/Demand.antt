@@ -2,7 +2,7 @@
 use mathlib.Core.Path.{refl, ap}
 use mathlib.Core.List.{List, [], ◌∷◌}
 use Rattle.rules.specs.declared.Event.{Event}
-use Rattle.rules.specs.declared.Answer.{Answer}
+use Rattle.rules.specs.Answer.{Answer}
 use Rattle.account.specs.declared.Account.{Account}
 use Rattle.account.specs.Post.{posted, Leaves}
 use Rattle.claim.specs.Run.{run, answers, LeftBy}

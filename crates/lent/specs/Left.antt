@@ -1,7 +1,7 @@
 -- DEMAND 3 for a lent account: a list posted on it one event at a time, each on the account that the posting before left.
 use Rattle.std.specs.Prelude.{◌≡◌, List}
 use Rattle.rules.specs.declared.Event.{Event}
-use Rattle.rules.specs.declared.Answer.{Answer}
+use Rattle.rules.specs.Answer.{Answer}
 use Rattle.rules.specs.Accepted.{accepted}
 use Rattle.account.specs.declared.Account.{Account}
 use Rattle.account.specs.State.{fresh_words}
