@@ -1,5 +1,4 @@
 -- The ledger's steps on its open items, without histories: what joins, what is settled, and what each kind's step comes to.
-use Rattle.std.proofs.lemmas.Grind.{common_steps}
 use Prim.Native.Nat.{ℕ, suc, ◌+◌, ◌-◌, ◌≤◌, ◌<◌}
 use mathlib.Core.Path.{◌≡◌, sym, ap, ◌∙◌}
 use mathlib.Core.Bool.{true, false}
@@ -127,11 +126,11 @@ payout_settled l c s o =
 module _ (l : Ledger) (e : Event) where
   pub charge_step : amount_if payout e ≡ 0 → (c : ℕ) → ledger_after l e true c 0 ≡ settled (entered_in l e.day c)
   unfolding ledger_after
-  charge_step z c = grind (arith, common_steps)
+  charge_step z c = rw z (ap settled (no_payout_in (credited_in (entered_in l e.day c) 0) ∙ no_credit_in (entered_in l e.day c)))
 
   pub credit_step : amount_if payout e ≡ 0 → (c k : ℕ) → ledger_after l e false c k ≡ settled (credited_in l k)
   unfolding ledger_after
-  credit_step z c k = grind (arith, common_steps)
+  credit_step z c k = rw z (ap settled (no_payout_in (credited_in l k)))
 
   module _ (f : l.closed ≤ l.made) (s : settled l ≡ l) (c : ℕ) where
     pub payout_step : ledger_after l e false c 0 ≡ paid_from l (amount_if payout e)

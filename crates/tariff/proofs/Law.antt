@@ -1,7 +1,8 @@
 -- The laws of a bill: it grows strictly with the usage, it is in the range of a bill's amount, and its lines hold the whole usage, in order.
+use Rattle.std.proofs.lemmas.Grind.{common_steps}
 use Prim.Native.Nat.{ℕ, ◌-◌, ◌≤◌, ◌<◌}
 use mathlib.Core.Path.{◌≡◌, refl, ◌∙◌}
-use mathlib.Core.Bool.{Bool, true, false, cond, ◌&&◌}
+use mathlib.Core.Bool.{Bool, true, ◌&&◌}
 use mathlib.Core.List.{List, [], ◌∷◌}
 use native.Mathlib.Omega.{arith}
 use lib.Dec.{leb, eqb}
@@ -12,10 +13,10 @@ use Rattle.basics.proofs.Cases.{and_both, Each, links}
 use Rattle.basics.proofs.Lists.{every_in}
 use Rattle.rules.specs.declared.Block.{Block}
 use Rattle.rules.specs.Kinds as kinds
-use Rattle.rules.specs.Limits.{most_amount, last_class, most_usage}
+use Rattle.rules.specs.Limits.{most_amount, most_usage}
 use Rattle.rules.specs.History.{within}
 use Rattle.rules.specs.Range.{in_range}
-use Rattle.rules.specs.Tariff.{basic_charges, schedules, lines_from, energy_by, row_of, basic_of, cents_of, is_class, bill_refusal, no_line}
+use Rattle.rules.specs.Tariff.{basic_charges, schedules, lines_from, energy_by, row_of, basic_of, cents_of, bill_refusal, no_line}
 use Rattle.rules.proofs.Days.{within_in}
 use Rattle.tariff.specs.Allowed.{Allowed}
 use Rattle.tariff.proofs.Rows.{lines_length, steep_from, growth, empty_behind, used_in, all_used}
@@ -42,15 +43,8 @@ charges : every small basic_charges ≡ true
 charges = refl
 
 -- ---- refused or not
-chosen : (b : Bool) (m n : ℕ) → cond b m n ≡ m → (n ≡ m → ⊥) → b ≡ true
-chosen true m n z h = refl
-chosen false m n z h = absurd (h z)
-
 pub allowed : (class usage : ℕ) → bill_refusal class usage ≡ 0 → Allowed class usage
-allowed class usage z =
-    let p = chosen (is_class class && leb usage most_usage) 0 23 z (λ e. omega (arith, e)) in
-    let f = links (leb 1 class) (leb class last_class ∷ leb usage most_usage ∷ []) p in
-    record { from_1 = leb-true 1 class f.0; to_last = leb-true class last_class f.1.0; usage_in_range = leb-true usage most_usage f.1.1.0 }
+allowed class usage z = grind (arith, common_steps)
 
 -- ---- for a class and a usage
 module _ (class usage : ℕ) (a : Allowed class usage) where
