@@ -1,5 +1,5 @@
 -- What the tests tell, and what an answer was made of.
-use mathlib.Core.Path.{◌≡◌, refl}
+use mathlib.Core.Path.{◌≡◌, refl, ap, ◌∙◌}
 use mathlib.Core.Bool.{true, false, cond}
 use mathlib.Core.List.{List}
 use Prim.Native.Nat.{ℕ, zero, suc, ◌+◌, ◌*◌, ◌<◌}
@@ -7,11 +7,10 @@ use native.Mathlib.Omega.{arith}
 use borrow.Author.Tests.{leb-true, eqb-true}
 use lib.Dec.{leb, eqb}
 use lib.ListN.{length}
-use Rattle.std.specs.Prelude.{Result}
+use Rattle.std.specs.Prelude.{Err}
 use Rattle.rules.specs.declared.refusals.Refusal.{Refusal}
-use Rattle.rules.specs.Refusals.{refusals}
-use Rattle.rules.specs.Answer.{answered}
-use Rattle.rules.proofs.Numbered.{number_answered}
+use Rattle.rules.specs.Refusals.{refusal_number, refusals}
+use Rattle.rules.proofs.Numbered.{number_answered, answered_err}
 use Rattle.bookformat.specs.Book.{accounts, records, base, header_fine, header_tests, book_refusal, records_fine}
 use Rattle.bookformat.specs.Answers.{outcome_number, outcome_of}
 use Rattle.bookformat.specs.Lent.{after, or_else, sizes_tests, sizes_fine, kinds_fine, write_refusal, room_tests, long_enough, read_refusal}
@@ -54,11 +53,9 @@ write_facts cs ks os ds ms room e =
     let q = header_passed k (cond w 0 22) 20 p.1 in
     record { sizes = sizes_facts cs ks os ds ms p.0; kinds = q.0; within = leb-true _ _ (header_passed w 0 21 q.1).0 }
 
--- what is answered by a number of the table tells it, and nothing is refused with 0
-pub told : (n : ℕ) (r : Result (Unit {0}) Refusal) → n < length refusals → r ≡ answered n tt → (outcome_number r ≡ n) × (r ≡ outcome_of (outcome_number r))
-told n r h e =
-    let m : outcome_number r ≡ n = rw e (number_answered n tt h) in
-    (m, rw m e)
+-- what is refused by a number of the table tells it, and it is not 0
+pub told : (n : ℕ) (r : Refusal) → n < length refusals → Err r ≡ outcome_of n → (refusal_number r ≡ n) × (eqb n 0 ≡ false)
+told n r h e = (ap outcome_number e ∙ number_answered n (tt {0}) h, (answered_err n r (tt {0}) (tt {0}) e).0)
 
 -- what is refused leaves all as it was
 pub unchanged : {A : Type 0} (n : ℕ) (new old : List A) → eqb n 0 ≡ false → old ≡ after n new old
