@@ -2,6 +2,7 @@
 #![tactic(auto)]
 
 ghost use Rattle.std.specs.Prelude.{◌≡◌, ◌+◌, ◌*◌, ◌<◌, ◌≤◌, length};
+ghost use Rattle.rules.specs.Answer.{answered};
 ghost use Rattle.bookformat.specs.Book.{most_accounts, base, record_fine, records_fine, table_fine, header_fine, book_refusal};
 ghost use Rattle.bookformat.specs.Finding.{entries, whole_records, record_at, record_of, span_at, IsAccount};
 
@@ -11,6 +12,7 @@ use bookformat::{
 };
 use little::get;
 use rules::Event;
+use rules::refusals::Refusal;
 
 // The record at byte p: its kind, and the two spare bytes.
 fn record_fine(b: &[u8], p: usize) -> bool
@@ -57,19 +59,12 @@ fn header_fine(b: &[u8]) -> bool
     a <= MOST_ACCOUNTS && b.len() == size(a, r) && table_fine(b, a, r)
 }
 
-// The test of a book. Length and header first, then the records in order: 0, or the number of the refusal.
-pub fn book_refusal(b: &[u8]) -> u8
-    ensures { result ≡ book_refusal b.now }
+// The test of a book: the length and the header first, then the records in order.
+pub fn check(b: &[u8]) -> Result<(), Refusal>
+    ensures { result ≡ answered (book_refusal b.now) tt }
 {
-    if !header_fine(b) {
-        return 20;
-    }
-    let start = base(accounts(b));
-    if records_fine(b, start, records(b)) {
-        0
-    } else {
-        21
-    }
+    Refusal::BadBook.when(!header_fine(b))?;
+    Refusal::BadRecord.when(!records_fine(b, base(accounts(b)), records(b)))
 }
 
 // How many accounts the table has, 0 where it is not whole.

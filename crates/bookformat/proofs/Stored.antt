@@ -10,13 +10,18 @@ use lib.ListN.{length, get_or, length-map}
 use lib.Seq.{sets}
 use Rattle.rules.specs.declared.Event.{Event}
 use Rattle.rules.specs.Kinds.{closing}
+use Rattle.rules.specs.declared.refusals.Refusal.{Refusal}
+use Rattle.rules.specs.Refusals.{refusal_number}
+use Rattle.rules.proofs.Numbered.{answered_ok}
+use Rattle.std.specs.Prelude.{Ok, Err}
 use Rattle.basics.proofs.Cases.{and_left, and_right}
 use Rattle.little.specs.Little.{top, Under}
 use Rattle.little.proofs.Stores.{sets_front}
 use Rattle.bookformat.specs.Book.{longest, kind_fine, book_refusal, accounts, records, base, events_at, counts_at, decode, book_of, encode}
-use Rattle.bookformat.specs.Lent.{after, kinds_fine, write_refusal, lent, lent_list, counts_total, kinds_of, options_of, days_of, amounts_of, Left}
+use Rattle.bookformat.specs.Lent.{after, kinds_fine, write_refusal, read_refusal, lent, lent_list, counts_total, kinds_of, options_of, days_of, amounts_of, Left, Gave, WroteBook}
 use Rattle.bookformat.specs.Facts.{Storable, WriteRoom, Fits}
-use Rattle.bookformat.proofs.Told.{write_facts}
+use Rattle.bookformat.specs.Answers.{outcome_of}
+use Rattle.bookformat.proofs.Told.{told, unchanged, write_facts, read_in_table, write_in_table}
 use Rattle.bookformat.proofs.Trips.{book_decoded, book_fine, flat_split, lengths_split, decode_parts, length_counts, length_events, length_book}
 
 pub length_lent : (n i : ℕ) (ks os ds ms : List ℕ) → length (lent n i ks os ds ms) ≡ n
@@ -24,7 +29,7 @@ length_lent zero i ks os ds ms = refl
 length_lent (suc n) i ks os ds ms = ap suc (length_lent n (i + 1) ks os ds ms)
 
 -- the stores of a whole book from byte 0 leave the book of the list, and the old tail
-pub wrote_all : (cs ks os ds ms old : List ℕ) → WriteRoom cs ks os ds ms (length old)
+wrote_all : (cs ks os ds ms old : List ℕ) → WriteRoom cs ks os ds ms (length old)
     → sets old 0 (book_of cs (lent (length ks) 0 ks os ds ms)) ≡ after 0 (encode (lent_list cs ks os ds ms)) old
 wrote_all cs ks os ds ms old s =
     let es = lent (length ks) 0 ks os ds ms in
@@ -56,6 +61,40 @@ gave_all b cs ks os ds ms cs2 ks2 os2 ds2 ms2 f c k o d m =
       options = rw p.1 (field_front (λ e. e.option) es (records b) os os2 n f.options o);
       days = rw p.1 (field_front (λ e. e.day) es (records b) ds ds2 n f.days d);
       amounts = rw p.1 (field_front (λ e. e.amount) es (records b) ms ms2 n f.amounts m);
+    }
+
+-- reading that is refused leaves all as it was
+pub gave_none : (b cs ks os ds ms : List ℕ) (r : Refusal) → Err r ≡ outcome_of (read_refusal b (length cs) (length ks) (length os) (length ds) (length ms))
+    → Gave b cs ks os ds ms cs ks os ds ms (refusal_number r)
+gave_none b cs ks os ds ms r e =
+    let n = read_refusal b (length cs) (length ks) (length os) (length ds) (length ms) in
+    let t = told n r (read_in_table b _ _ _ _ _) e in
+    record {
+      answer = t.0;
+      memory = record {
+        counts = unchanged n _ cs t.1;
+        kinds = unchanged n _ ks t.1;
+        options = unchanged n _ os t.1;
+        days = unchanged n _ ds t.1;
+        amounts = unchanged n _ ms t.1;
+      };
+    }
+
+-- and so does writing; what is not refused is stored
+pub wrote_none : (cs ks os ds ms old : List ℕ) (r : Refusal) → Err r ≡ outcome_of (write_refusal cs ks os ds ms (length old))
+    → WroteBook cs ks os ds ms old old (refusal_number r)
+wrote_none cs ks os ds ms old r e =
+    let t = told (write_refusal cs ks os ds ms (length old)) r (write_in_table cs ks os ds ms (length old)) e in
+    record { answer = t.0; bytes = unchanged _ _ old t.1 }
+
+pub wrote_done : (cs ks os ds ms old new : List ℕ) (x : Unit {0}) → Ok x ≡ outcome_of (write_refusal cs ks os ds ms (length old))
+    → new ≡ sets old 0 (book_of cs (lent (length ks) 0 ks os ds ms)) → WroteBook cs ks os ds ms old new 0
+wrote_done cs ks os ds ms old new x e s =
+    let z = (answered_ok _ _ _ e).0 in
+    record {
+      answer = sym z;
+      bytes = s ∙ wrote_all cs ks os ds ms old (write_facts cs ks os ds ms (length old) z)
+          ∙ sym (ap (λ n. after n (encode (lent_list cs ks os ds ms)) old) z);
     }
 
 -- ---- what is accepted for writing comes back

@@ -2,7 +2,7 @@
 use mathlib.Core.Path.{◌≡◌, refl, ap}
 use mathlib.Core.Bool.{Bool, true, false, cond, ◌&&◌}
 use mathlib.Core.List.{List, [], ◌∷◌}
-use Prim.Native.Nat.{ℕ, suc}
+use Prim.Native.Nat.{ℕ, suc, ◌<◌}
 use native.Mathlib.Omega.{arith}
 use Rattle.basics.proofs.Cases.{Each, and_left, and_right}
 use Rattle.bookformat.specs.Book.{all}
@@ -19,3 +19,7 @@ each (a ∷ b ∷ l) e = (and_left a (all (b ∷ l)) e, each (b ∷ l) (and_righ
 pub header_passed : (b : Bool) (x k : ℕ) → cond b x (suc k) ≡ 0 → (b ≡ true) × (x ≡ 0)
 header_passed true x k e = (refl, e)
 header_passed false x k e = absurd (omega arith)
+
+pub either : (b : Bool) (x y n : ℕ) → x < n → y < n → cond b x y < n
+either true x y n h i = h
+either false x y n h i = i

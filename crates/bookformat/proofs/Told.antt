@@ -1,18 +1,21 @@
 -- What the tests tell, and what an answer was made of.
-use mathlib.Core.Path.{◌≡◌, refl}
-use mathlib.Core.Bool.{true, cond}
+use mathlib.Core.Path.{◌≡◌, refl, ap, ◌∙◌}
+use mathlib.Core.Bool.{true, false, cond}
 use mathlib.Core.List.{List}
-use Prim.Native.Nat.{ℕ, zero, suc, ◌+◌, ◌*◌}
+use Prim.Native.Nat.{ℕ, zero, suc, ◌+◌, ◌*◌, ◌<◌}
 use native.Mathlib.Omega.{arith}
 use borrow.Author.Tests.{leb-true, eqb-true}
-use lib.Dec.{leb}
+use lib.Dec.{leb, eqb}
 use lib.ListN.{length}
-use Rattle.bookformat.specs.declared.Outcome.TheVariants.{Stopped}
+use Rattle.std.specs.Prelude.{Err}
+use Rattle.rules.specs.declared.refusals.Refusal.{Refusal}
+use Rattle.rules.specs.Refusals.{refusal_number, refusals}
+use Rattle.rules.proofs.Numbered.{number_answered, answered_err}
 use Rattle.bookformat.specs.Book.{accounts, records, base, header_fine, header_tests, book_refusal, records_fine}
-use Rattle.bookformat.specs.Answers.{outcome_of}
+use Rattle.bookformat.specs.Answers.{outcome_number, outcome_of}
 use Rattle.bookformat.specs.Lent.{after, or_else, sizes_tests, sizes_fine, kinds_fine, write_refusal, room_tests, long_enough, read_refusal}
 use Rattle.bookformat.specs.Facts.{Header, Fits, Sizes, WriteRoom}
-use Rattle.bookformat.proofs.Tests.{each, header_passed}
+use Rattle.bookformat.proofs.Tests.{each, header_passed, either}
 
 pub header_facts : (b : List ℕ) → header_fine b ≡ true → Header b
 header_facts b e =
@@ -50,12 +53,13 @@ write_facts cs ks os ds ms room e =
     let q = header_passed k (cond w 0 22) 20 p.1 in
     record { sizes = sizes_facts cs ks os ds ms p.0; kinds = q.0; within = leb-true _ _ (header_passed w 0 21 q.1).0 }
 
-pub stopped : (n : ℕ) → (n ≡ 0 → ⊥) → Stopped n ≡ outcome_of n
-stopped zero h = absurd (h refl)
-stopped (suc n) h = refl
+-- what is refused by a number of the table tells it, and it is not 0
+pub told : (n : ℕ) (r : Refusal) → n < length refusals → Err r ≡ outcome_of n → (refusal_number r ≡ n) × (eqb n 0 ≡ false)
+told n r h e = (ap outcome_number e ∙ number_answered n (tt {0}) h, (answered_err n r (tt {0}) (tt {0}) e).0)
 
-pub unchanged : {A : Type 0} (n : ℕ) (new old : List A) → (n ≡ 0 → ⊥) → old ≡ after n new old
-unchanged zero new old h = absurd (h refl)
+-- what is refused leaves all as it was
+pub unchanged : {A : Type 0} (n : ℕ) (new old : List A) → eqb n 0 ≡ false → old ≡ after n new old
+unchanged zero new old h = absurd (cc)
 unchanged (suc n) new old h = refl
 
 pub or_zero : (n x : ℕ) → or_else n x ≡ 0 → (n ≡ 0) × (x ≡ 0)
@@ -75,3 +79,26 @@ read_facts b lc lk lo ld lm e =
       days = leb-true _ _ f.1.1.1.0;
       amounts = leb-true _ _ f.1.1.1.1.0;
     }
+
+-- ---- the numbers are of the table, so that an answer tells them
+
+pub book_in_table : (b : List ℕ) → book_refusal b < length refusals
+book_in_table b =
+    let k = records_fine (records b) (base (accounts b)) b in
+    either (header_fine b) (cond k 0 21) 20 _ (either k 0 21 _ (omega arith) (omega arith)) (omega arith)
+
+pub write_in_table : (cs ks os ds ms : List ℕ) (room : ℕ) → write_refusal cs ks os ds ms room < length refusals
+write_in_table cs ks os ds ms room =
+    let w = leb (base (length cs) + 16 * length ks) room in
+    let k = kinds_fine (length ks) 0 ks in
+    either (sizes_fine cs ks os ds ms) (cond k (cond w 0 22) 21) 20 _
+    (either k (cond w 0 22) 21 _ (either w 0 22 _ (omega arith) (omega arith)) (omega arith)) (omega arith)
+
+or_in_table : (n x : ℕ) → n < length refusals → x < length refusals → or_else n x < length refusals
+or_in_table zero x h i = i
+or_in_table (suc n) x h i = h
+
+pub read_in_table : (b : List ℕ) (lc lk lo ld lm : ℕ) → read_refusal b lc lk lo ld lm < length refusals
+read_in_table b lc lk lo ld lm =
+    let w = long_enough b lc lk lo ld lm in
+    or_in_table (book_refusal b) (cond w 0 22) (book_in_table b) (either w 0 22 _ (omega arith) (omega arith))

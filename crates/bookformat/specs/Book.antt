@@ -1,7 +1,7 @@
 -- The book file of document 01: what its bytes say, what is refused, and the bytes of an account list.
 use Rattle.std.specs.Prelude.{Bool, true, cond, ◌&&◌, List, [], ◌∷◌, ◌++◌, map, ℕ, zero, suc, ◌+◌, ◌*◌, leb, eqb, length, take, drop, get_or}
 use Rattle.rules.specs.declared.Event.{Event}
-use Rattle.rules.specs.Kinds.{bill, closing}
+use Rattle.rules.specs.Kinds.{is_kind}
 use Rattle.little.specs.Little.{le, num}
 
 -- the most accounts of a book, and its greatest length
@@ -57,7 +57,7 @@ header_fine b = all (header_tests b)
 
 -- one of the sixteen kinds
 abbrev pub kind_fine : ℕ → Bool
-kind_fine k = leb bill k && leb k closing
+kind_fine k = is_kind k
 
 -- the record at byte p: a known kind, and both spare bytes 0
 abbrev pub record_fine : ℕ → List ℕ → Bool

@@ -1,14 +1,13 @@
 // The book file: what its bytes mean, what is refused, and the two round trips, in specs/ and proofs/. Here are its limits
-// and sizes, the words of the answers, the header and one record; the code for whole books is in `book`, `bookread` and `bookwrite`.
+// and sizes, the header and one record; the code for whole books is in `book`, `bookread` and `bookwrite`.
 #![tactic(auto)]
 
 ghost use Rattle.std.specs.Prelude.{◌≡◌, ◌+◌, ◌<◌, ◌≤◌, length};
 ghost use Rattle.bookformat.specs.Book.{accounts, records, base, size, kind_fine, event_at};
-ghost use Rattle.bookformat.specs.Answers.{outcome_number};
 
 use little::get;
 use rules::Event;
-use rules::kinds::{BILL, CLOSING};
+use rules::kinds::Kind;
 
 // A book has at most so many accounts ..
 pub const MOST_ACCOUNTS: usize = 1024;
@@ -23,30 +22,11 @@ pub const ENTRY: usize = 8;
 
 pub const RECORD: usize = 16;
 
-// How reading or writing a book ends: done, or stopped with the number of the refusal, 20, 21 or 22.
-#[derive(Clone, Copy)]
-pub enum Outcome {
-    Done,
-    Stopped(u8),
-}
-
 // The records of one account of a book: count of them, from record first on.
 #[derive(Clone, Copy)]
 pub struct Span {
     pub first: usize,
     pub count: usize,
-}
-
-impl Outcome {
-    // The number of the refusal, 0 for done.
-    pub fn number(self) -> u8
-        ensures { result ≡ outcome_number self }
-    {
-        match self {
-            Outcome::Done => 0,
-            Outcome::Stopped(n) => n,
-        }
-    }
 }
 
 // How many accounts the header tells of ..
@@ -85,7 +65,7 @@ pub fn size(accounts: usize, records: usize) -> usize
 pub fn kind_fine(k: u8) -> bool
     ensures { result ≡ kind_fine k }
 {
-    (BILL <= k) & (k <= CLOSING)
+    Kind::try_from(k).is_ok()
 }
 
 // The record at byte p.

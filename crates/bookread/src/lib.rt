@@ -4,15 +4,16 @@
 
 ghost use Rattle.std.specs.Prelude.{◌≡◌, ◌+◌, ◌*◌, ◌≤◌, length};
 ghost use Rattle.std.proofs.lemmas.List.Edits.{sets};
+ghost use Rattle.rules.specs.Answer.{answered};
 ghost use Rattle.bookformat.specs.Book.{most_accounts, base, events_at, counts_at, decode};
 ghost use Rattle.bookformat.specs.Lent.{kinds_of, options_of, days_of, amounts_of, read_refusal, Left, Gave};
 ghost use Rattle.bookformat.specs.Facts.{Fits};
 ghost use Rattle.bookread.specs.Memory.{SameSlices};
 ghost use Rattle.bookformat.specs.Answers.{outcome_number, outcome_of};
 
-use book::book_refusal;
-use bookformat::{Outcome, RECORD, accounts, base, event_at, records};
+use bookformat::{RECORD, accounts, base, event_at, records};
 use little::get;
+use rules::refusals::Refusal;
 
 // Memory lent for an account list: how many records each account has, and a slice for each field of the records.
 #[derive(Drop)]
@@ -24,25 +25,18 @@ pub struct LentMemory<'a> {
     pub amounts: &'a mut [u64],
 }
 
-// 0, or the number of the refusal, for this memory.
-fn read_refusal(b: &[u8], memory: &LentMemory) -> u8
-    ensures { let m = memory.now in result ≡ read_refusal b.now (length m.counts.now) (length m.kinds.now) (length m.options.now) (length m.days.now) (length m.amounts.now) }
+// The book first, then whether this memory has room for its list.
+fn check(b: &[u8], memory: &LentMemory) -> Result<(), Refusal>
+    ensures { let m = memory.now in result ≡ answered (read_refusal b.now (length m.counts.now) (length m.kinds.now) (length m.options.now) (length m.days.now) (length m.amounts.now)) tt }
 {
-    let n = book_refusal(b);
-    if n != 0 {
-        return n;
-    }
+    book::check(b)?;
     let r = records(b);
-    if accounts(b) <= memory.counts.len()
+    let fits = accounts(b) <= memory.counts.len()
         && r <= memory.kinds.len()
         && r <= memory.options.len()
         && r <= memory.days.len()
-        && r <= memory.amounts.len()
-    {
-        0
-    } else {
-        22
-    }
+        && r <= memory.amounts.len();
+    Refusal::TooShort.when(!fits)
 }
 
 // The counts of the first n accounts.
@@ -100,16 +94,13 @@ fn take_book(b: &[u8], memory: &mut LentMemory)
     );
 }
 
-// Reads the account list of a book, or answers 20, 21 or 22 and leaves all memory lent as it was.
-pub fn read(b: &[u8], memory: &mut LentMemory) -> Outcome
+// Reads the account list of a book, or refuses with 20, 21 or 22 and leaves all memory lent as it was.
+pub fn read(b: &[u8], memory: &mut LentMemory) -> Result<(), Refusal>
     ensures gave { let m = memory.old in let n = memory.new in Gave b.now m.counts.now m.kinds.now m.options.now m.days.now m.amounts.now n.counts.now n.kinds.now n.options.now n.days.now n.amounts.now (outcome_number result) }
     ensures outcome { result ≡ outcome_of (outcome_number result) }
     ensures same { SameSlices memory.old memory.new }
 {
-    let n = read_refusal(b, memory);
-    if n != 0 {
-        return Outcome::Stopped(n);
-    }
+    check(b, memory)?;
     take_book(b, memory);
-    Outcome::Done
+    Ok(())
 }

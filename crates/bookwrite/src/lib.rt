@@ -4,14 +4,16 @@
 ghost use Rattle.std.specs.Prelude.{◌≡◌, [], ◌∷◌, ◌++◌, ◌+◌, ◌*◌, ◌<◌, ◌≤◌, length};
 ghost use Rattle.std.proofs.lemmas.List.Edits.{sets};
 ghost use Rattle.little.specs.Little.{le};
+ghost use Rattle.rules.specs.Answer.{answered};
 ghost use Rattle.bookformat.specs.Book.{most_accounts, base, record_bytes, body, account_table, book_of};
 ghost use Rattle.bookformat.specs.Lent.{lent, counts_total, sizes_fine, kinds_fine, write_refusal, WroteBook};
 ghost use Rattle.bookformat.specs.Facts.{WriteRoom};
 ghost use Rattle.bookformat.specs.Answers.{outcome_number, outcome_of};
 
-use bookformat::{LONGEST, MOST_ACCOUNTS, Outcome, RECORD, base, kind_fine, size};
+use bookformat::{LONGEST, MOST_ACCOUNTS, RECORD, base, kind_fine, size};
 use little::put;
 use rules::Event;
+use rules::refusals::Refusal;
 
 // An account list in lent memory: how many records each account has in counts, the records of all accounts, one after
 // another, in a slice for each field.
@@ -53,20 +55,13 @@ fn sizes_fine(list: LentList) -> bool
         && list.amounts.len() == n
 }
 
-// 0, or the number of the refusal, for output of room bytes.
-fn write_refusal(list: LentList, room: usize) -> u8
-    ensures { let l = list.entry in result ≡ write_refusal l.counts.now l.kinds.now l.options.now l.days.now l.amounts.now room }
+// The sizes first, then the kinds, then whether output of room bytes has room for the book.
+fn check(list: LentList, room: usize) -> Result<(), Refusal>
+    ensures { let l = list.entry in result ≡ answered (write_refusal l.counts.now l.kinds.now l.options.now l.days.now l.amounts.now room) tt }
 {
-    if !sizes_fine(list) {
-        return 20;
-    }
-    if !kinds_fine(list.kinds) {
-        return 21;
-    }
-    if room < size(list.counts.len(), list.kinds.len()) {
-        return 22;
-    }
-    0
+    Refusal::BadBook.when(!sizes_fine(list))?;
+    Refusal::BadRecord.when(!kinds_fine(list.kinds))?;
+    Refusal::TooShort.when(room < size(list.counts.len(), list.kinds.len()))
 }
 
 // Two numbers of 4 bytes: the header, or an entry of the table.
@@ -134,15 +129,12 @@ fn put_book(list: LentList, out: &mut [u8])
     put_records(list, out, base(list.counts.len()));
 }
 
-// Writes the book of the account list lent, or answers 20, 21 or 22 and leaves the output as it was.
-pub fn write(list: LentList, out: &mut [u8]) -> Outcome
+// Writes the book of the account list lent, or refuses with 20, 21 or 22 and leaves the output as it was.
+pub fn write(list: LentList, out: &mut [u8]) -> Result<(), Refusal>
     ensures wrote_book { let l = list.entry in WroteBook l.counts.now l.kinds.now l.options.now l.days.now l.amounts.now out.old out.new (outcome_number result) }
     ensures outcome { result ≡ outcome_of (outcome_number result) }
 {
-    let n = write_refusal(list, out.len());
-    if n != 0 {
-        return Outcome::Stopped(n);
-    }
+    check(list, out.len())?;
     put_book(list, out);
-    Outcome::Done
+    Ok(())
 }
