@@ -6,7 +6,7 @@ use mathlib.Core.List.{List, [], ◌∷◌, ◌++◌, append_assoc, append-nil}
 use native.Mathlib.Omega.{arith}
 use lib.ListN.{length, take, drop}
 use Rattle.rules.specs.declared.Event.{Event}
-use Rattle.rules.specs.declared.Answer.{Answer}
+use Rattle.rules.specs.Answer.{Answer}
 use Rattle.bookformat.specs.declared.Span.{Span}
 use Rattle.bookformat.specs.Book.{records, book_refusal, flat, decode}
 use Rattle.bookformat.specs.Finding.{record_of, book_account, IsAccount}
