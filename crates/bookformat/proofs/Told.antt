@@ -94,7 +94,7 @@ write_in_table cs ks os ds ms room =
     either (sizes_fine cs ks os ds ms) (cond k (cond w 0 22) 21) 20 _
     (either k (cond w 0 22) 21 _ (either w 0 22 _ (omega arith) (omega arith)) (omega arith)) (omega arith)
 
-or_in_table : (n x : ℕ) → n < length refusals → x < length refusals → or_else n x < length refusals
+pub or_in_table : (n x : ℕ) → n < length refusals → x < length refusals → or_else n x < length refusals
 or_in_table zero x h i = i
 or_in_table (suc n) x h i = h
 

@@ -1,7 +1,11 @@
 -- One turn of noting a history: what is still to be noted, of the account so far, gives the whole.
-use Prim.Native.Nat.{ℕ, zero, suc, ◌+◌, ◌-◌, ◌≤◌, ◌<◌}
+use Prim.Native.Nat.{ℕ, suc, ◌+◌, ◌-◌, ◌≤◌, ◌<◌}
 use mathlib.Core.Path.{◌≡◌, refl, sym, ap, ◌∙◌}
-use mathlib.Core.Bool.{true, cond, ◌&&◌}
+use mathlib.Core.Bool.{Bool, true, false, not, cond, ◌&&◌}
+use Rattle.std.proofs.Common.{Result, Ok, Err}
+use Rattle.rules.specs.declared.refusals.Refusal.{Refusal}
+use Rattle.rules.specs.declared.refusals.Refusal.TheVariants.{TooShort}
+use Rattle.rules.specs.Refusals.{refusal_number, refusals}
 use mathlib.Core.List.{List, [], ◌∷◌, map}
 use native.Mathlib.Omega.{arith}
 use native.Mathlib.Numerals.{add-one}
@@ -14,12 +18,14 @@ use Rattle.basics.proofs.Cases.{on, and_left, and_right}
 use Rattle.rules.specs.declared.Event.{Event}
 use Rattle.rules.specs.History.{History}
 use Rattle.rules.specs.Money.{owed}
-use Rattle.rules.specs.Answer.{number_of}
+use Rattle.rules.specs.Answer.{answered, number_of}
 use Rattle.rules.specs.Accepted.{Lawful, offered, answers_after, answers_by}
 use Rattle.rules.proofs.Lawful.{offered_lawful}
 use Rattle.little.proofs.Stores.{sets_front}
 use Rattle.bookformat.specs.declared.Span.{Span}
-use Rattle.bookformat.specs.Lent.{after, or_else}
+use Rattle.bookformat.specs.Lent.{after}
+use Rattle.bookformat.specs.Answers.{outcome_of}
+use Rattle.bookformat.proofs.Told.{told, unchanged, or_zero, book_in_table, or_in_table}
 use Rattle.bookformat.specs.Book.{records, book_refusal, flat, decode}
 use Rattle.bookformat.specs.Finding.{record_of, book_account, IsAccount}
 use Rattle.bookformat.proofs.Found.{flat_length}
@@ -134,19 +140,29 @@ module _ (b : List ℕ) (i : ℕ) (ns₀ : List ℕ) (os₀ : List ℤ) where
         )
 
 -- ---- the whole, where no number refuses
-pub or_first : (n m x : ℕ) → n ≡ m → (n ≡ 0 → ⊥) → n ≡ or_else m x
-or_first n zero x e h = absurd (h e)
-or_first n (suc m) x e h = e
+-- 22 alone
+pub row_22 : (enough : Bool) → cond {A = Result (Unit {0}) Refusal} (not enough) (Err TooShort) (Ok tt) ≡ answered (cond enough 0 22) (tt {0})
+row_22 true = refl
+row_22 false = refl
 
-or_none : (n x : ℕ) → or_else n x ≡ 0 → (n ≡ 0) × (x ≡ 0)
-or_none zero x h = (refl, h)
-or_none (suc n) x h = absurd (omega (arith, h))
+history_in_table : (b : List ℕ) (i n m : ℕ) → history_refusal b i n m < length refusals
+history_in_table b i n m =
+    let t = leb (length (book_account b i)) n && leb (length (book_account b i)) m in
+    or_in_table (book_refusal b) (cond t 0 22) (book_in_table b) (on t (λ q. rw q (omega arith)) (λ q. rw q (omega arith)))
+
+-- a history that is refused leaves both slices as they were
+pub history_none : (b : List ℕ) (i : ℕ) (ns : List ℕ) (os : List ℤ) (r : Refusal) → Err r ≡ outcome_of (history_refusal b i (length ns) (length os))
+    → ToldHistory b i ns ns os os (refusal_number r)
+history_none b i ns os r e =
+    let n = history_refusal b i (length ns) (length os) in
+    let t = told n r (history_in_table b i _ _) e in
+    record { answer = t.0; numbers = unchanged n _ ns t.1; owing = unchanged n _ os t.1 }
 
 module _ (b : List ℕ) (i : ℕ) (ns : List ℕ) (os : List ℤ) (z : history_refusal b i (length ns) (length os) ≡ 0) where
   pub history_room : (book_refusal b ≡ 0) × (length (book_account b i) ≤ length ns) × (length (book_account b i) ≤ length os)
   history_room =
       let n = length (book_account b i) in
-      let r = or_none (book_refusal b) (cond (leb n (length ns) && leb n (length os)) 0 22) z in
+      let r = or_zero (book_refusal b) (cond (leb n (length ns) && leb n (length os)) 0 22) z in
       let t : (leb n (length ns) && leb n (length os)) ≡ true =
       on (leb n (length ns) && leb n (length os)) (λ q. q) (λ q. absurd (omega (arith, rw q at r.1))) in (
         r.0,

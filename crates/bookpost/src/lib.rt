@@ -62,7 +62,8 @@ fn check_history(b: &[u8], i: usize, n: usize, m: usize) -> Result<(), Refusal>
 {
     book::check(b)?;
     let s = book::account(b, i);
-    Refusal::TooShort.when(n < s.count || m < s.count)
+    let enough = (s.count <= n) & (s.count <= m);
+    Refusal::TooShort.when(!enough)
 }
 
 // The history of account i: the number of the answer to each record, 0 for accepted, and what is owed after it. An account
