@@ -2,6 +2,7 @@
 // follows it, a space or the end of the line.
 //
 // There is no `Display`: a contract says what `write!` wrote where it answers Ok, and none that it does where there is room.
+// Nor a struct of bytes and place: each contract would also have to say that it still holds the same lent bytes.
 #![tactic(auto)]
 
 ghost use Rattle.std.specs.Prelude.{◌≡◌, [], ◌∷◌, ◌++◌, ◌+◌, ◌≤◌, length};
