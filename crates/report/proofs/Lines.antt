@@ -86,20 +86,14 @@ module _ (i : ℕ) (m : ℤ) (h o : ℕ) (v : Service) (r : ℕ) where
   line_short : length (line i m h o v r) ≤ 113
   line_short = omega (arith, line_length, width_short i, signed_short m, width_short h, width_short o, word_short v, width_short r)
 
-pub standing_length : (i : ℕ) (s : Standing) → length (standing_line i s)
-    ≡ width i + length (signed (sub_ℕ s.charged s.credits)) + width s.held +
-    (width s.open_count + length (word_of s.service) + width s.refused) + 6
-standing_length i s = ap length (standing_line_lem i s) ∙ line_length i (sub_ℕ s.charged s.credits) s.held s.open_count s.service s.refused
-
 -- no account's line is longer than 113 bytes
-pub lines_short : (i : ℕ) (l : AccountList) → length (lines_of i l) ≤ 113 * length l
+pub line_of_short : (i : ℕ) (es : List Event) → length (line_of i es) ≤ 113
 unfolding line_of
+line_of_short i es =
+    let h = accepted es in
+    line_short i (owed h) (held h) (length (open_items h)) (service h) (length es - length h)
+
+pub lines_short : (i : ℕ) (l : AccountList) → length (lines_of i l) ≤ 113 * length l
 lines_short i [] = omega arith
 lines_short i (es ∷ l) =
-    let h = accepted es in
-    omega (
-      arith,
-      length-append (line_of i es) (lines_of (i + 1) l),
-      line_short i (owed h) (held h) (length (open_items h)) (service h) (length es - length h),
-      lines_short (i + 1) l,
-    )
+    omega (arith, length-append (line_of i es) (lines_of (i + 1) l), line_of_short i es, lines_short (i + 1) l)

@@ -16,7 +16,7 @@ use account::spans::{COLLECTION, DEPOSIT, LEDGER, MEDICAL};
 use account::{Account, WORDS};
 use bookformat::MOST_ACCOUNTS;
 use bookpost::run_account;
-use line::{line_length, put_line};
+use line::put_line;
 use little::get;
 use rules::Service;
 use text::{put_bytes, put_number, width};
@@ -67,8 +67,6 @@ impl Printed {
 // The first line.
 const HEADING: [u8; FIRST_LINE] = *b"account owed held open service refused\n";
 
-const BOOK_REFUSED: [u8; 13] = *b"book refused ";
-
 // Where the account in memory m stands, of whose records so many were refused.
 fn standing_in(m: &[u64], refused: u64) -> Standing
     requires { length m.now ≡ account_size }
@@ -114,21 +112,18 @@ fn put_lines(b: &[u8], n: usize, out: &mut [u8], p: usize) -> usize
     ensures { Put (lines_of 0 (decode b.now)) out.old out.new p result }
 {
     let mut at = p;
-    let mut i: usize = 0;
-    while i < n {
+    for i in 0..n {
         at = put_account(b, i, out, at);
-        i += 1;
     }
     at
 }
 
-// How long the line of account i is, 113 bytes at most.
+// How long the line of account i is, 113 bytes at most: it is stored where nobody reads it.
 fn account_length(b: &[u8], i: usize) -> usize
     requires { book_refusal b.now ≡ 0 }
     ensures { (result ≡ length (line_of i (book_account b.now i))) × (result ≤ longest_line) }
 {
-    let s = standing_of(b, i);
-    line_length(i as u64, s)
+    put_account(b, i, &mut [0; LINE], 0)
 }
 
 // How long the lines of all n accounts are.
@@ -136,11 +131,9 @@ fn lines_length(b: &[u8], n: usize) -> usize
     requires { (book_refusal b.now ≡ 0) × (n ≡ accounts b.now) }
     ensures { (result ≡ length (lines_of 0 (decode b.now))) × (result ≤ longest_line * n) }
 {
-    let mut sum: usize = 0;
-    let mut i: usize = 0;
-    while i < n {
+    let mut sum = 0;
+    for i in 0..n {
         sum += account_length(b, i);
-        i += 1;
     }
     sum
 }
@@ -161,8 +154,7 @@ fn put_listing(b: &[u8], n: usize, out: &mut [u8]) -> usize
     requires { (book_refusal b.now ≡ 0) × (n ≡ accounts b.now) × (length (listing b.now) ≤ length out.old) }
     ensures { Put (listing b.now) out.old out.new 0 result }
 {
-    let heading = HEADING;
-    let p = put_bytes(out, 0, &heading);
+    let p = put_bytes(out, 0, &HEADING);
     put_lines(b, n, out, p)
 }
 
@@ -170,12 +162,11 @@ fn put_listing(b: &[u8], n: usize, out: &mut [u8]) -> usize
 fn put_refusal(out: &mut [u8], n: u8) -> Printed
     ensures { WroteText (refused_text n) out.old out.new result }
 {
-    let number = n as u64;
+    let number = u64::from(n);
     if out.len() < 14 + width(number) {
         return Printed::Refused(22);
     }
-    let words = BOOK_REFUSED;
-    let p = put_bytes(out, 0, &words);
+    let p = put_bytes(out, 0, b"book refused ");
     Printed::Bytes(put_number(out, p, number, b'\n'))
 }
 

@@ -1,11 +1,14 @@
 -- Laws of decimal text: its length, how it is stored, and that it reads back as the number.
-use Prim.Native.Nat.{ℕ, zero, suc, ◌+◌, ◌*◌, ◌-◌, ◌/◌, ◌%◌, ◌≤◌, ◌<◌}
-use mathlib.Core.Path.{◌≡◌, refl, ap, ◌∙◌}
-use mathlib.Core.List.{List, [], ◌∷◌, ◌++◌}
+use Prim.Native.Nat.{ℕ, zero, suc, ◌+◌, ◌*◌, ◌-◌, ◌/◌, ◌%◌, ◌^◌, ◌≤◌, ◌<◌}
+use mathlib.Core.Path.{◌≡◌, refl, sym, ap, ◌∙◌}
+use mathlib.Core.List.{List, [], ◌∷◌, ◌++◌, append_assoc}
 use native.Mathlib.Omega.{arith}
-use lib.IntN.{ℤ, pos, negsuc, sub_ℕ}
-use lib.ListN.{length, length-append, set}
-use lib.Seq.{sets, set_comm, length-sets}
+use lib.IntN.{ℤ, pos, negsuc}
+use lib.ListN.{length, take, drop, length-append, take-append-drop}
+use lib.Seq.{sets, sets-eq, drop-drop, length-sets}
+use borrow.Rule.Slice.PartMut.{put_mid}
+use Rattle.std.specs.Fmt as printed
+use Rattle.std.proofs.lemmas.Fmt.{decimal_from_appends, length-decimal-le}
 use Rattle.basics.proofs.Cases.{on_lt}
 use borrow.Author.Tests.{lt-ltb, le-ltb}
 use Rattle.little.proofs.Stores.{sets_then}
@@ -33,23 +36,11 @@ pub signed_short : (z : ℤ) → length (signed z) ≤ 21
 signed_short (pos n) = omega (arith, length_decimal n, width_short n)
 signed_short (negsuc n) = omega (arith, length_decimal (suc n), width_short (suc n))
 
--- the text of a difference
-pub signed_below : (a b : ℕ) → a < b → signed (sub_ℕ a b) ≡ 45 ∷ decimal (b - a)
-signed_below a b h =
-    let e : suc (b - suc a) ≡ b - a = omega arith in
-    rw (lt-ltb a b h) (ap (λ n. 45 ∷ decimal n) e)
-
-pub signed_above : (a b : ℕ) → b ≤ a → signed (sub_ℕ a b) ≡ decimal (a - b)
-signed_above a b h = rw (le-ltb a b h)
-
-pub width_below : (a b : ℕ) → a < b → length (signed (sub_ℕ a b)) ≡ 1 + width (b - a)
-width_below a b h = rw (signed_below a b h) (ap suc (length_decimal (b - a)) ∙ omega arith)
-
-pub width_above : (a b : ℕ) → b ≤ a → length (signed (sub_ℕ a b)) ≡ width (a - b)
-width_above a b h = rw (signed_above a b h) (length_decimal (a - b))
-
 pub length_marked : (x : List ℕ) (m : ℕ) → length (x ++ (m ∷ [])) ≡ length x + 1
 length_marked x m = length-append x (m ∷ [])
+
+pub decimal_room : (n mark : ℕ) → length (decimal n ++ (mark ∷ [])) ≡ width n + 1
+decimal_room n mark = rw (length_marked (decimal n) mark, length_decimal n)
 
 -- one text stored behind another
 pub put_then : (x y o o1 o2 : List ℕ) (p q r : ℕ) → Put x o o1 p q → Put y o1 o2 q r → Put (x ++ y) o o2 p r
@@ -66,12 +57,14 @@ room_first x y o p h = omega (arith, length-append x y)
 pub room_then : (x y o o1 : List ℕ) (p q : ℕ) → p + length (x ++ y) ≤ length o → Put x o o1 p q → q + length y ≤ length o1
 room_then x y o o1 p q h a = omega (arith, length-append x y, a.end, ap length a.bytes, length-sets o p x)
 
--- a byte stored behind a list, then the list
-pub sets_last : (x o : List ℕ) (p q d : ℕ) → q ≡ p + length x → sets (set o q d) p x ≡ sets o p (x ++ (d ∷ []))
-sets_last [] o p q d e = ap (λ k. set o k d) (e ∙ omega arith)
-sets_last (a ∷ x) o p q d e =
-    ap (λ l. sets l (suc p) x) (set_comm o q p d a (λ z. absurd (omega arith)))
-    ∙ sets_last x (set o p a) (suc p) q d (e ∙ omega arith)
+-- a text copied over a part of the bytes
+pub sets_mid : (o x : List ℕ) (p k : ℕ) → k ≡ length x → p + length x ≤ length o → put_mid p k o x ≡ sets o p x
+sets_mid o x p k e h = rw (e, sets-eq x o p h, drop-drop (length x) p o, append_assoc (take p o) x (drop (p + length x) o))
+
+-- bytes that are as they were up to p, the text there, and as they were behind it
+pub sets_between : (o o2 x : List ℕ) (p q : ℕ) → p + length x ≡ q → q ≤ length o → take p o2 ≡ take p o → drop p o2 ≡ x ++ drop q o → o2 ≡ sets o p x
+sets_between o o2 x p q e h f g =
+    sym (take-append-drop p o2) ∙ rw (f, g, sets-eq x o p (omega arith), e, append_assoc (take p o) x (drop q o))
 
 -- ---- what the text says
 abbrev pub tens : ℕ → ℕ
@@ -101,13 +94,33 @@ pub reads_back : (n : ℕ) → n < tens 20 → value 0 (decimal n) ≡ n
 unfolding decimal width
 reads_back n h = value_digits (width n) n (width_enough 19 n h)
 
--- ---- a turn of the count
-pub width_stop : (k n : ℕ) → 0 < k → n < 10 → width_in k n ≡ 1
-width_stop zero n h q = absurd (omega arith)
-width_stop (suc k) n h q = rw (lt-ltb n 10 q)
+-- ---- the digits are those that the library prints
+-- n in at most k digits
+abbrev within : ℕ → ℕ → List ℕ
+within zero n = []
+within (suc k) n = digits (width_in k n) n
 
-pub width_more : (k n : ℕ) → 0 < k → 10 ≤ n → width_in k n ≡ suc (width_in (k - 1) (n / 10))
-width_more zero n h q = absurd (omega arith)
-width_more (suc k) n h q =
-    let e : k ≡ suc k - 1 = omega arith in
-    rw (le-ltb n 10 q) (ap (λ j. suc (width_in j (n / 10))) e)
+within_one : (k n : ℕ) → n < 10 → within (suc k) n ≡ (48 + n) ∷ []
+within_one zero n h = ap (λ d. (48 + d) ∷ []) (omega arith)
+within_one (suc k) n h = rw (lt-ltb n 10 h) (ap (λ d. (48 + d) ∷ []) (omega arith))
+
+within_more : (k n : ℕ) → 10 ≤ n → within (suc k) n ≡ within k (n / 10) ++ ((48 + n % 10) ∷ [])
+within_more zero n h = refl
+within_more (suc k) n h = rw (le-ltb n 10 h)
+
+pub decimal_is : (n : ℕ) → n < 2 ^ 64 → printed.decimal n ≡ decimal n
+unfolding decimal width
+decimal_is n h =
+    sym (decimal_from_appends within (record { one = within_one; more = within_more }) 20 n h (length-decimal-le 20 n (omega arith) (omega arith) h))
+
+-- ---- the width is that of the power of ten below
+width_in_is : (j k n : ℕ) → k ≤ j → 10 ^ k ≤ n → n < 10 * 10 ^ k → width_in j n ≡ k + 1
+width_in_is zero k n h a b = omega arith
+width_in_is (suc j) zero n h a b = rw (lt-ltb n 10 (omega (arith, b)))
+width_in_is (suc j) (suc k) n h a b =
+    let p : 10 ^ suc k ≡ 10 * 10 ^ k = omega arith in
+    rw (le-ltb n 10 (omega (arith, a, p))) (omega (arith, width_in_is j k (n / 10) (omega arith) (omega (arith, a, p)) (omega (arith, b, p))))
+
+pub width_is : (k n : ℕ) → k < 20 → 10 ^ k ≤ n → n < 10 * 10 ^ k → width n ≡ k + 1
+unfolding width
+width_is k n h a b = width_in_is 19 k n (omega arith) a b

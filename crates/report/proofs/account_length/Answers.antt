@@ -1,11 +1,15 @@
-use mathlib.Core.Path.{ap, ◌∙◌}
-use lib.ListN.{length}
+use native.Mathlib.Omega.{arith}
 use Rattle.bookformat.specs.Finding.{book_account}
-use Rattle.report.proofs.Lines.{line_is}
+use Rattle.report.proofs.Lines.{line_of_short}
 use Rattle.report.proofs.account_length.Goals as goal
+
+pub put_account-requires : goal.put_account-requires
+put_account-requires c =
+    let a = c.args in
+    (c.requires, omega (arith, line_of_short a.i (book_account a.b.now a.i)))
 
 pub returns : goal.returns
 returns c =
-    let s = c.args in
-    let t = c.standing_of-s in
-    (c.line_length.ensures.0 ∙ ap length (line_is s.i t.result (book_account s.b.now s.i) t.ensures), c.line_length.ensures.1)
+    let a = c.args in
+    let e = c.put_account.ensures.end in
+    (omega (arith, e), omega (arith, e, line_of_short a.i (book_account a.b.now a.i)))

@@ -1,7 +1,8 @@
+use mathlib.Core.Path.{◌≡◌, ap, ◌∙◌}
 use mathlib.Core.List.{[], ◌∷◌, ◌++◌}
 use native.Mathlib.Omega.{arith}
 use Rattle.basics.specs.Ascii.{ascii}
-use Rattle.text.specs.Decimal.{decimal}
+use Rattle.text.specs.Decimal.{width, decimal}
 use Rattle.text.proofs.Numerals.{put_then, room_then}
 use Rattle.report.specs.Report.{refused_text}
 use Rattle.report.proofs.Listing.{written, too_short, refused_length}
@@ -10,23 +11,24 @@ use Rattle.report.proofs.put_refusal.Goals as goal
 pub returns-then-out-width : goal.returns-then-out-width
 returns-then-out-width c =
     let s = c.args in
-    too_short (refused_text s.n) s.out.now (omega (arith, refused_length s.n, c.width.ensures.0))
+    let w : c.width.result ≡ width s.n = c.width.ensures.0 ∙ ap width c.from-number.ensures in
+    too_short (refused_text s.n) s.out.now (omega (arith, refused_length s.n, w))
 
 pub put_number-requires : goal.put_number-requires
 unfolding refused_text
 put_number-requires c =
     let s = c.args in
     let a = c.put_bytes-p in
-    let w = c.width in
-    room_then (ascii "book refused ") (decimal s.n ++ (10 ∷ [])) s.out.now a.new.out 0 a.result
-    (omega (arith, refused_length s.n, w.ensures.0)) a.ensures
+    let w : c.width.result ≡ width s.n = c.width.ensures.0 ∙ ap width c.from-number.ensures in
+    rw c.from-number.ensures (room_then (ascii "book refused ") (decimal s.n ++ (10 ∷ [])) s.out.now a.new.out 0 a.result
+    (omega (arith, refused_length s.n, w)) a.ensures)
 
 pub returns : goal.returns
 unfolding refused_text
 returns c =
     let s = c.args in
     let a = c.put_bytes-p in
-    let w = c.width in
-    written (refused_text s.n) s.out.now _ _ (omega (arith, refused_length s.n, w.ensures.0))
-    (put_then (ascii "book refused ") (decimal s.n ++ (10 ∷ [])) s.out.now a.new.out _ 0 a.result _ a.ensures
-    c.put_number.ensures)
+    let w : c.width.result ≡ width s.n = c.width.ensures.0 ∙ ap width c.from-number.ensures in
+    let t = rw c.from-number.ensures at c.put_number.ensures in
+    written (refused_text s.n) s.out.now _ _ (omega (arith, refused_length s.n, w))
+    (put_then (ascii "book refused ") (decimal s.n ++ (10 ∷ [])) s.out.now a.new.out _ 0 a.result _ a.ensures t)

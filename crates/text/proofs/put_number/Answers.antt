@@ -1,51 +1,33 @@
-use Prim.Native.Nat.{ℕ, ◌+◌}
-use mathlib.Core.Path.{◌≡◌, ap, ◌∙◌}
-use mathlib.Core.List.{[], ◌∷◌, ◌++◌}
+use Prim.Native.Nat.{◌+◌}
+use mathlib.Core.Path.{◌≡◌, sym, ap}
+use mathlib.Core.List.{[], ◌∷◌}
 use native.Mathlib.Omega.{arith}
 use lib.ListN.{length}
 use lib.Seq.{sets}
+use Rattle.std.specs.Fmt as printed
 use Rattle.little.proofs.Stores.{sets_then}
-use Rattle.text.specs.Decimal.{digits, decimal, width}
-use Rattle.text.proofs.Numerals.{length_decimal, length_marked}
+use Rattle.text.specs.Decimal.{decimal}
+use Rattle.text.proofs.Numerals.{length_decimal, length_marked, decimal_room, decimal_is, sets_between}
 use Rattle.text.proofs.put_number.Goals as goal
 
-room : (n mark : ℕ) → length (decimal n ++ (mark ∷ [])) ≡ width n + 1
-room n mark = rw (length_marked (decimal n) mark, length_decimal n)
-
-pub put_digits-requires : goal.put_digits-requires
-put_digits-requires c =
+pub write_digits-requires : goal.write_digits-requires
+write_digits-requires c =
     let a = c.args in
-    omega (arith, c.width-w.ensures.0, room a.n a.mark)
-
-pub overflow_add-out : goal.overflow_add-out
-overflow_add-out c =
-    let a = c.args in
-    omega (arith, c.width-w.ensures.0, room a.n a.mark)
-
-pub bounds-out-p : goal.bounds-out-p
-bounds-out-p c =
-    let a = c.args in
-    omega (arith, c.width-w.ensures.0, room a.n a.mark)
-
-pub overflow_add-result : goal.overflow_add-result
-overflow_add-result c =
-    let a = c.args in
-    omega (arith, c.width-w.ensures.0, room a.n a.mark)
-
-pub overflow_add-result-2 : goal.overflow_add-result-2
-overflow_add-result-2 c =
-    let a = c.args in
-    omega (arith, c.width-w.ensures.0, room a.n a.mark)
+    rw (decimal_is a.n c.ranges.n.fits, length_decimal a.n) (omega (arith, c.width.ensures.0), omega (arith, c.width.ensures.0, decimal_room a.n a.mark))
 
 pub returns : goal.returns
-unfolding decimal
 returns c =
-    let d = c.put_digits in
-    let w = c.width-w in
+    let d = c.write_digits in
+    let w = c.width in
     let a = c.args in
-    let e : d.new.out ≡ sets a.out.now a.p (decimal a.n) = d.ensures ∙ ap (λ k. sets a.out.now a.p (digits k a.n)) w.ensures.0 in
-    let q : a.p + w.result ≡ a.p + length (decimal a.n) = omega (arith, length_decimal a.n, w.ensures.0) in
+    let x = decimal a.n in
+    let q : a.p + w.result ≡ a.p + length x = omega (arith, length_decimal a.n, w.ensures.0) in
+    let i : printed.decimal a.n ≡ x = decimal_is a.n c.ranges.n.fits in
+    let s : d.result ≡ a.p = omega (arith, d.ensures.start, ap length i, q) in
+    let f = rw s at d.ensures.before in
+    let g = rw (s, i) at d.ensures.written in
+    let e : d.new.buf ≡ sets a.out.now a.p x = sets_between a.out.now d.new.buf x a.p (a.p + w.result) (sym q) (omega (arith, w.ensures.0, decimal_room a.n a.mark)) f g in
     record {
-      bytes = sets_then (decimal a.n) (a.mark ∷ []) a.out.now d.new.out a.p (a.p + w.result) e q;
-      end = omega (arith, q, length_marked (decimal a.n) a.mark);
+      bytes = sets_then x (a.mark ∷ []) a.out.now d.new.buf a.p (a.p + w.result) e q;
+      end = omega (arith, q, length_marked x a.mark);
     }

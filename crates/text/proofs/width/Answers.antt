@@ -1,23 +1,14 @@
-use mathlib.Core.Path.{◌≡◌}
+use mathlib.Core.Path.{refl}
 use native.Mathlib.Omega.{arith}
 use Rattle.text.specs.Decimal.{width}
-use Rattle.text.proofs.Numerals.{width_stop, width_more}
+use Rattle.text.proofs.Numerals.{width_is}
 use Rattle.text.proofs.width.Goals as goal
 
-pub returns-then-rest-lt10 : goal.returns-then-rest-lt10
-unfolding width
-returns-then-rest-lt10 c =
-    let l = c.loop-left in
-    (omega (arith, width_stop l.left l.rest (omega arith) (omega arith)), omega arith)
+pub returns-in-Some : goal.returns-in-Some
+returns-in-Some c =
+    let k = c.in-Some in
+    (omega (arith, width_is k.k c.args.n k.ensures.bound k.ensures.power_le k.ensures.next_power_gt), omega (arith, k.ensures.bound))
 
-pub loop-left-preserved : goal.loop-left-preserved
-loop-left-preserved c =
-    let l = c.loop-left in
-    (omega (arith, width_more l.left l.rest (omega arith) (omega arith)), omega arith)
-
-pub returns : goal.returns
+pub returns-in-None : goal.returns-in-None
 unfolding width
-returns c =
-    let l = c.loop-left in
-    let e : l.left ≡ 0 = omega arith in
-    (omega (arith, rw e at l.invariant.0), omega arith)
+returns-in-None c = rw (c.in-None.ensures.none) (refl, omega arith)
