@@ -6,7 +6,7 @@ use mathlib.Core.List.{List, [], ◌∷◌, ◌++◌}
 use native.Mathlib.Omega.{arith}
 use native.Mathlib.Numerals.{add-one}
 use borrow.Author.Tests.{lt-ltb, le-ltb}
-use lib.Dec.{ltb}
+use lib.Dec.{ltb, eqb}
 use lib.ListN.{length, drop, length-append, drop_of_length-le}
 use lib.Seq.{sets, drop-cons, length-sets}
 use Rattle.basics.specs.Ascii.{ascii}
@@ -19,7 +19,12 @@ use Rattle.text.specs.Decimal.{width, decimal}
 use Rattle.text.specs.Put.{Put}
 use Rattle.text.proofs.Numerals.{length_decimal, length_marked}
 use Rattle.report.specs.Report.{heading, line_of, lines_of, listing, refused_text, text_by, room_for, WroteText}
-use Rattle.report.specs.declared.Printed.TheVariants.{Bytes, Refused}
+use Rattle.std.proofs.Common.{Ok, Err}
+use Rattle.rules.specs.declared.refusals.Refusal.{Refusal}
+use Rattle.rules.specs.declared.refusals.Refusal.TheVariants.{TooShort}
+use Rattle.rules.specs.Refusals.{refusal_number}
+use Rattle.bookformat.specs.Answers.{outcome_of}
+use Rattle.bookformat.proofs.Told.{told, book_in_table}
 use Rattle.report.proofs.Lines.{lines_short}
 
 -- the lines from account i on
@@ -110,7 +115,7 @@ module _ (b : List ℕ) where
 
 -- ---- a text that is written whole, or not at all
 module _ (text old : List ℕ) where
-  pub written : (new : List ℕ) (r : ℕ) → length text ≤ length old → Put text old new 0 r → WroteText text old new (Bytes r)
+  pub written : (new : List ℕ) (r : ℕ) → length text ≤ length old → Put text old new 0 r → WroteText text old new (Ok r)
   written new r h p =
       let f = le-ltb (length old) (length text) h in
       record {
@@ -119,14 +124,19 @@ module _ (text old : List ℕ) where
         bytes = rw f (p.bytes ∙ sets_front text old h);
       }
 
-  pub too_short : length old < length text → WroteText text old old (Refused 22)
+  pub too_short : length old < length text → WroteText text old old (Err TooShort)
   too_short h =
       let f = lt-ltb (length old) (length text) h in
       record { number = rw f; written = rw f; bytes = rw f }
 
-pub refused_as : (n : ℕ) (b : List ℕ) → (n ≡ 0 → ⊥) → text_by n b ≡ refused_text n
-refused_as zero b h = absurd (h refl)
+refused_as : (n : ℕ) (b : List ℕ) → eqb n 0 ≡ false → text_by n b ≡ refused_text n
+refused_as zero b h = absurd (cc)
 refused_as (suc n) b h = refl
+
+pub text_refused : (b : List ℕ) (r : Refusal) → Err r ≡ outcome_of (book_refusal b) → text_by (book_refusal b) b ≡ refused_text (refusal_number r)
+text_refused b r e =
+    let t = told (book_refusal b) r (book_in_table b) e in
+    refused_as (book_refusal b) b t.1 ∙ ap refused_text (sym t.0)
 
 pub refused_length : (n : ℕ) → length (refused_text n) ≡ 14 + width n
 unfolding refused_text

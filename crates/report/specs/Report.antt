@@ -1,5 +1,5 @@
 -- The text that `standing` prints for a book, by the rules over events alone.
-use Rattle.std.specs.Prelude.{ℕ, zero, suc, ◌+◌, ◌*◌, ◌-◌, ◌≡◌, Bool, cond, List, [], ◌∷◌, ◌++◌, ltb, ℤ, length, drop}
+use Rattle.std.specs.Prelude.{ℕ, zero, suc, ◌+◌, ◌*◌, ◌-◌, ◌≡◌, Bool, cond, List, [], ◌∷◌, ◌++◌, ltb, ℤ, length, drop, Result}
 use Rattle.basics.specs.Ascii.{ascii}
 use Rattle.rules.specs.declared.Event.{Event}
 use Rattle.rules.specs.declared.Service.{Service}
@@ -7,11 +7,11 @@ use Rattle.rules.specs.History.{History}
 use Rattle.rules.specs.Deposit.{held}
 use Rattle.rules.specs.Money.{owed, open_items}
 use Rattle.rules.specs.Service.{service, word_of}
+use Rattle.rules.specs.declared.refusals.Refusal.{Refusal}
+use Rattle.rules.specs.Answer.{number_of, value_or}
 use Rattle.rules.specs.Accepted.{accepted}
 use Rattle.text.specs.Decimal.{decimal, signed}
 use Rattle.bookformat.specs.Book.{AccountList, most_accounts, book_refusal, decode}
-use Rattle.report.specs.declared.Printed.{Printed}
-use Rattle.report.specs.declared.Printed.TheVariants.{Bytes, Refused}
 
 -- words with one space between, and the end of the line
 abbrev pub spaced : List (List ℕ) → List ℕ
@@ -74,16 +74,14 @@ room_for n = 39 + longest_line * n
 abbrev pub most_room : ℕ
 most_room = room_for most_accounts
 
--- ---- the answer, as document 01's number and value, by cases
+-- ---- the answer, as document 01's number and value
 -- the number that refuses, 0 where the text is written
-abbrev pub printed_number : Printed → ℕ
-printed_number (Bytes n) = 0
-printed_number (Refused n) = n
+abbrev pub printed_number : Result ℕ Refusal → ℕ
+printed_number r = number_of r
 
 -- how many bytes were written, 0 where it is refused
-abbrev pub printed_bytes : Printed → ℕ
-printed_bytes (Bytes n) = n
-printed_bytes (Refused n) = 0
+abbrev pub printed_bytes : Result ℕ Refusal → ℕ
+printed_bytes r = value_or 0 r
 
 -- ---- writing a text
 -- the output is too short for the text
@@ -104,11 +102,11 @@ printed_in text old = cond (short_for text old) old (text ++ drop (length text) 
 
 -- what writing a text does: its answer, by number and bytes, and every byte of the output. No text is empty, so that
 -- number and bytes are those of one answer only (`one_answer` in proofs/Texts.antt)
-pub record WroteText (text old new : List ℕ) (r : Printed) : Type 0 where
+pub record WroteText (text old new : List ℕ) (r : Result ℕ Refusal) : Type 0 where
   pub number : printed_number r ≡ print_refusal text old
   pub written : printed_bytes r ≡ print_length text old
   pub bytes : new ≡ printed_in text old
 
 -- what a report of the bytes b does
-abbrev pub Reported : List ℕ → List ℕ → List ℕ → Printed → Type 0
+abbrev pub Reported : List ℕ → List ℕ → List ℕ → Result ℕ Refusal → Type 0
 Reported b old new r = WroteText (text_of b) old new r

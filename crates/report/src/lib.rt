@@ -4,21 +4,25 @@
 mod line;
 
 ghost use Rattle.std.specs.Prelude.{◌≡◌, ◌+◌, ◌*◌, ◌≤◌, ◌<◌, ltb, length};
+ghost use Rattle.rules.specs.Refusals.{refusal_number};
 ghost use Rattle.rules.specs.Accepted.{accepted};
 ghost use Rattle.bookformat.specs.Book.{accounts, book_refusal, decode};
 ghost use Rattle.bookformat.specs.Finding.{book_account};
 ghost use Rattle.text.specs.Put.{Put};
 ghost use Rattle.account.specs.State.{account_size};
 ghost use Rattle.report.specs.Standing.{Stands, standing_on};
-ghost use Rattle.report.specs.Report.{longest_line, line_of, lines_of, listing, refused_text, input_text, printed_bytes, WroteText, Reported};
+ghost use Rattle.report.specs.Report.{longest_line, line_of, lines_of, listing, refused_text, input_text, WroteText, Reported};
 
 use account::spans::{COLLECTION, DEPOSIT, LEDGER, MEDICAL};
 use account::{Account, WORDS};
-use bookformat::MOST_ACCOUNTS;
+use bookformat::{MOST_ACCOUNTS, accounts};
 use bookpost::run_account;
+use collection::Collection;
+use deposit::Deposit;
 use line::put_line;
-use little::get;
 use rules::Service;
+use rules::refusals::Refusal;
+use span::Part;
 use text::{put_bytes, put_number, width};
 
 // The longest file that the program reads.
@@ -45,25 +49,6 @@ pub struct Standing {
     pub refused: u64,
 }
 
-// How many bytes were written; or refused with 22, the output being shorter than the text.
-#[derive(Clone, Copy)]
-pub enum Printed {
-    Bytes(usize),
-    Refused(u8),
-}
-
-impl Printed {
-    // How many bytes were written, 0 where it is refused.
-    pub fn bytes(self) -> usize
-        ensures { result ≡ printed_bytes self }
-    {
-        match self {
-            Printed::Bytes(n) => n,
-            Printed::Refused(_) => 0,
-        }
-    }
-}
-
 // The first line.
 const HEADING: [u8; FIRST_LINE] = *b"account owed held open service refused\n";
 
@@ -73,15 +58,12 @@ fn standing_in(m: &[u64], refused: u64) -> Standing
     ensures { result ≡ standing_on m.now refused }
 {
     let s = ledger::sums_of(&m[LEDGER..WORDS]);
-    let d = deposit::load(&m[DEPOSIT..MEDICAL]);
-    let c = collection::load(&m[COLLECTION..DEPOSIT]);
-    let service = c.service();
     Standing {
         charged: s.charged,
         credits: s.credits,
-        held: d.held,
+        held: Deposit::load(&m[DEPOSIT..MEDICAL]).held,
         open_count: s.open_count,
-        service,
+        service: Collection::load(&m[COLLECTION..DEPOSIT]).service(),
         refused,
     }
 }
@@ -91,8 +73,7 @@ fn standing_of(b: &[u8], i: usize) -> Standing
     requires { book_refusal b.now ≡ 0 }
     ensures { Stands result (book_account b.now i) (accepted (book_account b.now i)) }
 {
-    let account = Account::fresh();
-    let mut memory = account.memory;
+    let mut memory = Account::fresh().memory;
     let refused = run_account(b, i, &mut memory);
     standing_in(&memory, refused)
 }
@@ -158,39 +139,39 @@ fn put_listing(b: &[u8], n: usize, out: &mut [u8]) -> usize
     put_lines(b, n, out, p)
 }
 
-// The text for a book that is refused with n.
-fn put_refusal(out: &mut [u8], n: u8) -> Printed
-    ensures { WroteText (refused_text n) out.old out.new result }
+// The text for a book that is refused.
+fn put_refusal(out: &mut [u8], refusal: Refusal) -> Result<usize, Refusal>
+    ensures { WroteText (refused_text (refusal_number refusal)) out.old out.new result }
 {
-    let number = u64::from(n);
+    let number = u64::from(refusal.number());
     if out.len() < 14 + width(number) {
-        return Printed::Refused(22);
+        return Err(Refusal::TooShort);
     }
     let p = put_bytes(out, 0, b"book refused ");
-    Printed::Bytes(put_number(out, p, number, b'\n'))
+    Ok(put_number(out, p, number, b'\n'))
 }
 
-// The standing of every account of the book b, written into out.
-pub fn report(b: &[u8], out: &mut [u8]) -> Printed
+// The standing of every account of the book b, written into out: how many bytes that took; refused where the output is too short.
+pub fn report(b: &[u8], out: &mut [u8]) -> Result<usize, Refusal>
     ensures { Reported b.now out.old out.new result }
 {
-    let refusal = book::book_refusal(b);
-    if refusal != 0 {
+    if let Err(refusal) = book::check(b) {
         return put_refusal(out, refusal);
     }
-    let n = get::<4>(b, 0) as usize;
+    let n = accounts(b);
     if is_short(b, n, out.len()) {
-        return Printed::Refused(22);
+        return Err(Refusal::TooShort);
     }
-    Printed::Bytes(put_listing(b, n, out))
+    Ok(put_listing(b, n, out))
 }
 
 // The same for what the program `standing` read: more than 65,536 bytes are refused with 20.
-pub fn report_input(b: &[u8], out: &mut [u8]) -> Printed
+pub fn report_input(b: &[u8], out: &mut [u8]) -> Result<usize, Refusal>
     ensures { WroteText (input_text b.now) out.old out.new result }
 {
     if LONGEST_INPUT < b.len() {
-        return put_refusal(out, 20);
+        put_refusal(out, Refusal::BadBook)
+    } else {
+        report(b, out)
     }
-    report(b, out)
 }
