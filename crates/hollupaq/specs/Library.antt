@@ -1,9 +1,10 @@
 -- The answers of the static library: plain numbers, since an enum has no form in C; and demand 3 of an account that a program keeps.
-use Rattle.std.specs.Prelude.{ℕ, zero, suc, ◌+◌, min, ◌≡◌, Bool, cond, List, map, eqb, length}
+use Rattle.std.specs.Prelude.{ℕ, zero, suc, ◌+◌, min, ◌≡◌, Bool, true, false, cond, List, map, eqb, length, Result, Ok, Err}
 use Rattle.basics.specs.Machine.{largest}
 use Rattle.rules.specs.declared.Event.{Event}
-use Rattle.rules.specs.declared.Answer.{Answer}
-use Rattle.rules.specs.declared.Answer.TheVariants.{Accepted, Refused}
+use Rattle.rules.specs.declared.refusals.Refusal.{Refusal}
+use Rattle.rules.specs.Refusals.{refusal_number}
+use Rattle.rules.specs.Answer.{Answer}
 use Rattle.rules.specs.Money.{arrears}
 use Rattle.rules.specs.Notice.{notice_live}
 use Rattle.rules.specs.Medical.{certified}
@@ -12,10 +13,6 @@ use Rattle.rules.specs.Accepted.{day_refusal, accepted, answer, answers_by}
 use Rattle.account.specs.State.{account_size, fresh_words}
 use Rattle.account.specs.Post.{answer_to, words_after}
 use Rattle.account.specs.Many.{answer_at_of, words_at_after}
-use Rattle.questions.specs.declared.Amount.{Amount}
-use Rattle.questions.specs.declared.Amount.TheVariants as amount
-use Rattle.questions.specs.declared.Truth.{Truth}
-use Rattle.questions.specs.declared.Truth.TheVariants as truth
 use Rattle.questions.specs.Questions.{arrears_on, in_force_on, notice_live_on, certified_on}
 use Rattle.claim.specs.Run.{LeftBy}
 use Rattle.claim.specs.Claim.{ClaimOf}
@@ -42,8 +39,8 @@ pub record Written (text old new : List ℕ) (r : ℕ) : Type 0 where
 -- ---- an account that the caller keeps
 -- under 256 the number that refuses, 0 where the memory is no account; else 256 and the receipt of a payment, or 256 alone
 abbrev pub answer_word : Answer → ℕ
-answer_word (Accepted n) = 256 + n
-answer_word (Refused n) = n
+answer_word (Ok n) = 256 + n
+answer_word (Err r) = refusal_number r
 
 -- one posting: the memory was m, r is what is answered to e, and k is the memory that is left
 pub record Keeps (m : List ℕ) (e : Event) (r : ℕ) (k : List ℕ) : Type 0 where
@@ -61,14 +58,14 @@ pub record Begun (m : List ℕ) (r : ℕ) (k : List ℕ) : Type 0 where
   pub words_are : k ≡ cond (eqb (length m) account_size) fresh_words m
 
 -- what is told for a day: below 256 the number that refuses it; else 256 and the cents, or 256 and 1 for yes, 256 for no
-abbrev pub amount_word : Amount → ℕ
-amount_word (amount.Cents n) = min (256 + n) largest
-amount_word (amount.Refused n) = n
+abbrev pub amount_word : Result ℕ Refusal → ℕ
+amount_word (Ok n) = min (256 + n) largest
+amount_word (Err r) = refusal_number r
 
-abbrev pub truth_word : Truth → ℕ
-truth_word truth.Yes = 257
-truth_word truth.No = 256
-truth_word (truth.Refused n) = n
+abbrev pub truth_word : Result Bool Refusal → ℕ
+truth_word (Ok true) = 257
+truth_word (Ok false) = 256
+truth_word (Err r) = refusal_number r
 
 -- DEMAND 3 of z, the memory after the list es: what was answered are the answers of the events alone, and the claim holds
 pub record KeptClaimOf (z : List ℕ) (said : List ℕ) (es : List Event) : Type 0 where

@@ -3,19 +3,14 @@ ghost use Rattle.std.specs.Prelude.{◌≡◌, get_or};
 ghost use Rattle.rules.specs.Tariff.{cents_of, bill_refusal, bill_lines, no_line};
 ghost use Rattle.hollupaq.specs.Library.{told};
 
-use crate::ACCEPTED;
-use rules::Billed;
+use crate::word_of;
 
 // The cents of the bill of a class and a usage. Below 256: refused by that number.
 #[unsafe(no_mangle)]
 pub extern "C" fn hollupaq_bill(class: u8, usage: u64) -> u64
     ensures { result ≡ told (bill_refusal class usage) (cents_of class usage) }
 {
-    let b = tariff::bill(class, usage);
-    match b {
-        Billed::Cents(n) => ACCEPTED + n,
-        Billed::Refused(n) => n as u64,
-    }
+    word_of(tariff::bill(class, usage))
 }
 
 // The kilowatt-hours of line i of that bill, from 0; 0 past the last, and where the bill is refused.
@@ -23,8 +18,7 @@ pub extern "C" fn hollupaq_bill(class: u8, usage: u64) -> u64
 pub extern "C" fn hollupaq_bill_used(class: u8, usage: u64, i: usize) -> u64
     ensures { result ≡ (get_or (bill_lines class usage) i no_line).used }
 {
-    let l = tariff::bill_line(class, usage, i);
-    l.used
+    tariff::bill_line(class, usage, i).used
 }
 
 // The price of each of them, in hundredths of a cent; 0 as well then.
@@ -32,6 +26,5 @@ pub extern "C" fn hollupaq_bill_used(class: u8, usage: u64, i: usize) -> u64
 pub extern "C" fn hollupaq_bill_price(class: u8, usage: u64, i: usize) -> u64
     ensures { result ≡ (get_or (bill_lines class usage) i no_line).price }
 {
-    let l = tariff::bill_line(class, usage, i);
-    l.price
+    tariff::bill_line(class, usage, i).price
 }

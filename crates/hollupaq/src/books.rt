@@ -11,17 +11,17 @@ use crate::ACCEPTED;
 use bookread::LentMemory;
 use bookwrite::LentList;
 use little::get;
+use rules::refusals::number_of;
 
 // The number at byte p of the header, where the book is not refused.
 fn header_number(book: &[u8], p: usize) -> u64
     requires { p ≤ 4 }
     ensures { result ≡ told (book_refusal book.now) (num 4 p book.now) }
 {
-    let n = book::book_refusal(book);
-    if n != 0 {
-        return n as u64;
+    match book::check(book) {
+        Ok(()) => ACCEPTED + get::<4>(book, p),
+        Err(refusal) => u64::from(refusal.number()),
     }
-    ACCEPTED + get::<4>(book, p)
 }
 
 // The test of a book: 20 or 21 where it is refused, else 256 and how many accounts it has.
@@ -59,8 +59,7 @@ pub extern "C" fn hollupaq_book_read(
         days,
         amounts,
     };
-    let o = bookread::read(book, &mut memory);
-    o.number()
+    number_of(bookread::read(book, &mut memory))
 }
 
 // Writes the book of an account list: 256 and its length, and longer output keeps its tail; or 20, 21 or 22, and the output
@@ -83,10 +82,8 @@ pub extern "C" fn hollupaq_book_write(
         days,
         amounts,
     };
-    let o = bookwrite::write(list, out);
-    let n = o.number();
-    if n != 0 {
-        return n as u64;
+    match bookwrite::write(list, out) {
+        Ok(()) => ACCEPTED + bookformat::size(counts.len(), kinds.len()) as u64,
+        Err(refusal) => u64::from(refusal.number()),
     }
-    ACCEPTED + bookformat::size(counts.len(), kinds.len()) as u64
 }

@@ -4,28 +4,14 @@ ghost use Rattle.std.specs.Prelude.{◌≡◌};
 ghost use Rattle.questions.specs.Questions.{arrears_on, in_force_on, notice_live_on, certified_on};
 ghost use Rattle.hollupaq.specs.Library.{amount_word, truth_word};
 
-use crate::ACCEPTED;
-use questions::{Amount, Truth};
-
-// The sum stops at the largest number, which only words reach that the library did not leave so.
-fn amount_word(a: Amount) -> u64
-    ensures { result ≡ amount_word a }
-{
-    match a {
-        Amount::Cents(n) => basics::plus(ACCEPTED, n),
-        Amount::Refused(n) => n as u64,
-    }
-}
+use crate::word_of;
+use rules::refusals::Refusal;
 
 // 1 for yes, 0 for no.
-fn truth_word(x: Truth) -> u64
-    ensures { result ≡ truth_word x }
+fn truth_word(answer: Result<bool, Refusal>) -> u64
+    ensures { result ≡ truth_word answer }
 {
-    match x {
-        Truth::Yes => ACCEPTED + 1,
-        Truth::No => ACCEPTED,
-        Truth::Refused(n) => n as u64,
-    }
+    word_of(answer.map(u64::from))
 }
 
 // The arrears in cents.
@@ -33,8 +19,7 @@ fn truth_word(x: Truth) -> u64
 pub extern "C" fn hollupaq_arrears(account: &[u64], day: u32) -> u64
     ensures { result ≡ amount_word (arrears_on account.now day) }
 {
-    let a = questions::arrears(account, day);
-    amount_word(a)
+    word_of(questions::arrears(account, day))
 }
 
 // Whether a payment arrangement is in force.
@@ -42,8 +27,7 @@ pub extern "C" fn hollupaq_arrears(account: &[u64], day: u32) -> u64
 pub extern "C" fn hollupaq_in_force(account: &[u64], day: u32) -> u64
     ensures { result ≡ truth_word (in_force_on account.now day) }
 {
-    let x = questions::in_force(account, day);
-    truth_word(x)
+    truth_word(questions::in_force(account, day))
 }
 
 // Whether a final notice is live.
@@ -51,8 +35,7 @@ pub extern "C" fn hollupaq_in_force(account: &[u64], day: u32) -> u64
 pub extern "C" fn hollupaq_notice_live(account: &[u64], day: u32) -> u64
     ensures { result ≡ truth_word (notice_live_on account.now day) }
 {
-    let x = questions::notice_live(account, day);
-    truth_word(x)
+    truth_word(questions::notice_live(account, day))
 }
 
 // Whether a medical certificate is live.
@@ -60,6 +43,5 @@ pub extern "C" fn hollupaq_notice_live(account: &[u64], day: u32) -> u64
 pub extern "C" fn hollupaq_certified(account: &[u64], day: u32) -> u64
     ensures { result ≡ truth_word (certified_on account.now day) }
 {
-    let x = questions::certified(account, day);
-    truth_word(x)
+    truth_word(questions::certified(account, day))
 }

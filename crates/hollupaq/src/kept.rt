@@ -1,8 +1,6 @@
 // An account that a program in another language keeps in its own memory, and posts to one event at a time. Only pointers with
 // lengths, and numbers, cross the boundary.
-ghost use Rattle.std.specs.Prelude.{◌≡◌, cond, ◌+◌, ◌≤◌, get_or};
-ghost use Rattle.rules.specs.Limits.{limit};
-ghost use Rattle.rules.specs.Answer.{receipt_of};
+ghost use Rattle.std.specs.Prelude.{◌≡◌, cond, get_or};
 ghost use Rattle.collection.specs.Collection.{service_number};
 ghost use Rattle.ledger.specs.Ledger.{no_item};
 ghost use Rattle.account.specs.State.{account_size, passes as is_account};
@@ -10,29 +8,9 @@ ghost use Rattle.account.specs.Post.{answer_to};
 ghost use Rattle.questions.specs.Questions.{owed_in, held_in, required_in, service_in, open_in, count_in};
 ghost use Rattle.hollupaq.specs.Library.{answer_word, Keeps, KeepsAt, Begun};
 
-use crate::ACCEPTED;
+use crate::word_of;
 use account::WORDS;
-use rules::{Answer, Event, Service};
-
-fn word_of(a: Answer) -> u64
-    requires { receipt_of a ≤ limit + 1 }
-    ensures { result ≡ answer_word a }
-{
-    match a {
-        Answer::Accepted(receipt) => ACCEPTED + receipt,
-        Answer::Refused(n) => n as u64,
-    }
-}
-
-fn number_of(s: Service) -> u32
-    ensures { result ≡ service_number s }
-{
-    match s {
-        Service::On => 0,
-        Service::Off => 1,
-        Service::Closed => 2,
-    }
-}
+use rules::Event;
 
 // How many words an account has, so that a program can hold its header against the library.
 #[unsafe(no_mangle)]
@@ -47,7 +25,7 @@ pub extern "C" fn hollupaq_words() -> u64
 pub extern "C" fn hollupaq_ok(account: &[u64]) -> u8
     ensures { result ≡ cond (is_account account.now) 1 0 }
 {
-    basics::select8(account::passes(account), 1, 0)
+    u8::from(account::passes(account))
 }
 
 // No events, service on, all sums 0: 1 where the memory is such an account now, 0 where it has not the words of one and stays
@@ -58,9 +36,10 @@ pub extern "C" fn hollupaq_fresh(account: &mut [u64]) -> u8
 {
     if account.len() == WORDS {
         account::clear(account);
-        return 1;
+        1
+    } else {
+        0
     }
-    0
 }
 
 // One event posted. Under 256: refused by that number, 0 where the memory is no account, and it stays as it was. Else accepted:
@@ -81,8 +60,7 @@ pub extern "C" fn hollupaq_post(
         day,
         amount,
     };
-    let answer = account::post(account, e);
-    word_of(answer)
+    word_of(account::post(account, e))
 }
 
 // What posting the event would answer, with the account left alone.
@@ -102,8 +80,7 @@ pub extern "C" fn hollupaq_would_answer(
         day,
         amount,
     };
-    let answer = account::would_answer(account, e);
-    word_of(answer)
+    word_of(account::would_answer(account, e))
 }
 
 // Posting on account i, from 0, of many that lie one after another; 0 where there is no account i.
@@ -124,8 +101,7 @@ pub extern "C" fn hollupaq_post_at(
         day,
         amount,
     };
-    let answer = account::many::post_at(accounts, i, e);
-    word_of(answer)
+    word_of(account::many::post_at(accounts, i, e))
 }
 
 // What is owed, negative where there is credit.
@@ -157,8 +133,7 @@ pub extern "C" fn hollupaq_required(account: &[u64]) -> u64
 pub extern "C" fn hollupaq_service(account: &[u64]) -> u32
     ensures { result ≡ service_number (service_in account.now) }
 {
-    let s = questions::service(account);
-    number_of(s)
+    questions::service(account) as u32
 }
 
 // How many items are open.
@@ -174,8 +149,7 @@ pub extern "C" fn hollupaq_open_count(account: &[u64]) -> u64
 pub extern "C" fn hollupaq_open_day(account: &[u64], i: usize) -> u64
     ensures { result ≡ (get_or (open_in account.now) i no_item).day }
 {
-    let x = questions::open_item(account, i);
-    x.day
+    questions::open_item(account, i).day
 }
 
 // The unpaid part of open item i; 0 past the last.
@@ -183,6 +157,5 @@ pub extern "C" fn hollupaq_open_day(account: &[u64], i: usize) -> u64
 pub extern "C" fn hollupaq_open_unpaid(account: &[u64], i: usize) -> u64
     ensures { result ≡ (get_or (open_in account.now) i no_item).unpaid }
 {
-    let x = questions::open_item(account, i);
-    x.unpaid
+    questions::open_item(account, i).unpaid
 }

@@ -9,10 +9,11 @@ mod kept;
 ghost use Rattle.report.specs.Report.{text_of};
 ghost use Rattle.bookpost.specs.BookHistory.{ToldHistory};
 ghost use Rattle.std.specs.Prelude.{◌≡◌};
-ghost use Rattle.hollupaq.specs.Library.{library_version, Written};
+ghost use Rattle.hollupaq.specs.Library.{library_version, Written, amount_word};
 
 use bookpost::history;
 use report::report;
+use rules::refusals::{Refusal, number_of};
 
 // The version of the library: 10,000 for each change that a program has to be changed for, 100 for each that adds something, 1 for each
 // that only mends. include/hollupaq.h has the same number.
@@ -20,6 +21,17 @@ const VERSION: u64 = 10_100;
 
 // What is answered from here on is accepted, or told: 256 and the value. Below it stands the number that refuses.
 const ACCEPTED: u64 = 256;
+
+// An answer as a number: 256 and the value, or the number that refuses. The sum stops at the largest number, which only words reach
+// that the library did not leave so.
+fn word_of(answer: Result<u64, Refusal>) -> u64
+    ensures { result ≡ amount_word answer }
+{
+    match answer {
+        Ok(value) => ACCEPTED.saturating_add(value),
+        Err(refusal) => u64::from(refusal.number()),
+    }
+}
 
 // The version, so that a program can hold its header against the library that it runs with.
 #[unsafe(no_mangle)]
@@ -35,8 +47,7 @@ pub extern "C" fn hollupaq_version() -> u64
 pub extern "C" fn hollupaq_report(book: &[u8], out: &mut [u8]) -> u64
     ensures { Written (text_of book.now) out.old out.new result }
 {
-    let p = report(book, out);
-    p.bytes() as u64
+    report(book, out).unwrap_or(0) as u64
 }
 
 // The history of one account, counted from 0: for each of its records the number of the answer, 0 for accepted, and what is
@@ -51,6 +62,5 @@ pub extern "C" fn hollupaq_history(
 ) -> u8
     ensures { ToldHistory book.now account numbers.old numbers.new owed.old owed.new result }
 {
-    let o = history(book, account, numbers, owed);
-    o.number()
+    number_of(history(book, account, numbers, owed))
 }

@@ -36,8 +36,7 @@ fn read<R: Read>(input: &mut R, memory: &mut [u8]) -> (usize, io::Result<()>)
 fn print(book: &[u8], out: &mut [u8; ROOM]) -> usize
     ensures { Prints book.now out.old out.new result }
 {
-    let p = report_input(book, out);
-    p.bytes()
+    report_input(book, out).unwrap_or(0)
 }
 
 // Hands a text to the output: nothing but the whole text for what was read.

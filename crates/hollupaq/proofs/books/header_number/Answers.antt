@@ -1,16 +1,21 @@
-use mathlib.Core.Path.{sym, ◌∙◌}
-use native.Mathlib.Omega.{arith}
-use Rattle.bookformat.proofs.Told.{book_facts}
-use Rattle.hollupaq.proofs.Told.{told_number, told_value}
+use Rattle.std.proofs.Common.{sym, ◌∙◌, arith}
+use Rattle.rules.proofs.Numbered.{answered_ok}
+use Rattle.bookformat.specs.Book.{book_refusal}
+use Rattle.bookformat.proofs.Told.{book_facts, book_in_table}
+use Rattle.bookformat.proofs.Told as book
+use Rattle.hollupaq.proofs.Told.{told_value, not_told}
 use Rattle.hollupaq.proofs.books.header_number.Goals as goal
 
-pub returns-then-n-ne0 : goal.returns-then-n-ne0
-returns-then-n-ne0 c =
-    let e = c.book_refusal-n.ensures in
-    e ∙ told_number _ _ (rw e at c.if-n-ne0.true)
-
 pub get-requires : goal.get-requires
-get-requires c = omega (arith, (book_facts c.args.book.now (sym c.book_refusal-n.ensures ∙ c.if-n-ne0.false)).0)
+get-requires c =
+    let b = c.args.book.now in
+    omega (arith, (book_facts b (answered_ok (book_refusal b) c.in-Ok.field-0 _ c.in-Ok.ensures).0).0)
 
-pub returns : goal.returns
-returns c = told_value _ _ _ (sym c.book_refusal-n.ensures ∙ c.if-n-ne0.false) c.get.ensures.0
+pub returns-in-Ok : goal.returns-in-Ok
+returns-in-Ok c = told_value _ _ _ (answered_ok (book_refusal c.args.book.now) c.in-Ok.field-0 _ c.in-Ok.ensures).0 c.get.ensures.0
+
+pub returns-in-Err : goal.returns-in-Err
+returns-in-Err c =
+    let b = c.args.book.now in
+    let t = book.told (book_refusal b) c.in-Err.refusal (book_in_table b) c.in-Err.ensures in
+    c.from.ensures ∙ (c.number.ensures ∙ (t.0 ∙ not_told (book_refusal b) _ (sym t.1)))

@@ -1,24 +1,25 @@
-use mathlib.Core.Path.{sym, ◌∙◌}
-use native.Mathlib.Omega.{arith}
+use Rattle.std.proofs.Common.{refl, arith}
+use borrow.Author.Tests.{eqb-false}
+use Rattle.rules.specs.Refusals.{refusal_number}
+use Rattle.rules.proofs.Numbered.{answered_err}
 use Rattle.hollupaq.proofs.Told.{stored, stored_not, stored_sizes}
 use Rattle.hollupaq.proofs.books.hollupaq_book_write.Goals as goal
-
-pub returns-then-n-ne0 : goal.returns-then-n-ne0
-returns-then-n-ne0 c =
-    let s = c.args in
-    let e = c.number-n.ensures in
-    rw e (stored_not s.counts.now s.kinds.now s.options.now s.days.now s.amounts.now s.out.now _ _ c.write-o.ensures.wrote_book
-    (rw e at c.if-n-ne0.true))
 
 pub size-requires : goal.size-requires
 size-requires c =
     let s = c.args in
-    let z = stored_sizes s.counts.now s.kinds.now s.options.now s.days.now s.amounts.now s.out.now _ _ c.write-o.ensures.wrote_book
-    (sym c.number-n.ensures ∙ c.if-n-ne0.false) in
+    let z = stored_sizes s.counts.now s.kinds.now s.options.now s.days.now s.amounts.now s.out.now _ 0 c.in-Ok.ensures.wrote_book refl in
     omega (arith, z)
 
-pub returns : goal.returns
-returns c =
+pub returns-in-Ok : goal.returns-in-Ok
+returns-in-Ok c =
     let s = c.args in
-    rw c.size.ensures (stored s.counts.now s.kinds.now s.options.now s.days.now s.amounts.now s.out.now _ _ c.write-o.ensures.wrote_book
-    (sym c.number-n.ensures ∙ c.if-n-ne0.false))
+    rw c.size.ensures (stored s.counts.now s.kinds.now s.options.now s.days.now s.amounts.now s.out.now _ 0 c.in-Ok.ensures.wrote_book refl)
+
+pub returns-in-Err : goal.returns-in-Err
+returns-in-Err c =
+    let s = c.args in
+    let n = refusal_number c.in-Err.refusal in
+    let q = (answered_err n c.in-Err.refusal (tt {0}) (tt {0}) c.in-Err.ensures.outcome).0 in
+    rw (c.from.ensures, c.number.ensures)
+    (stored_not s.counts.now s.kinds.now s.options.now s.days.now s.amounts.now s.out.now _ n c.in-Err.ensures.wrote_book (eqb-false n 0 q))

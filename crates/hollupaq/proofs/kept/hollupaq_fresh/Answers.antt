@@ -5,5 +5,5 @@ pub returns-then-account-eq-WORDS : goal.returns-then-account-eq-WORDS
 returns-then-account-eq-WORDS c =
     begun c.args.account.now c.clear.new.m c.if-account-eq-WORDS.true c.clear.ensures
 
-pub returns : goal.returns
-returns c = not_begun c.args.account.now c.if-account-eq-WORDS.false
+pub returns-else-account-eq-WORDS : goal.returns-else-account-eq-WORDS
+returns-else-account-eq-WORDS c = not_begun c.args.account.now c.if-account-eq-WORDS.false

@@ -1,5 +1,0 @@
-use mathlib.Core.Path.{ap}
-use Rattle.hollupaq.proofs.kept.hollupaq_open_unpaid.Goals as goal
-
-pub returns : goal.returns
-returns c = ap (λ x. x.unpaid) c.open_item-x.ensures
