@@ -84,7 +84,7 @@ fn public(home: &str) -> Vec<Function> {
             let Some(name) = head
                 .strip_prefix("pub fn ")
                 .or_else(|| head.strip_prefix("pub extern \"C\" fn "))
-                .and_then(|rest| rest.split('(').next())
+                .and_then(|rest| rest.split(['(', '<']).next())
             else {
                 continue;
             };

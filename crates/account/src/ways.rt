@@ -36,7 +36,7 @@ fn check_credit(m: &[u64], e: Event) -> Result<(), Refusal>
     requires { (length m.now ≡ account_size) × (e.kind ≡ payment) }
     ensures { result ≡ answered (refusal_by (view (state_on m.now) e) e) tt }
 {
-    table::arms::credit_rows(ledger::sums_of(&m[LEDGER..WORDS]).credited, e.amount)
+    table::credit_rows(ledger::sums_of(&m[LEDGER..WORDS]).credited, e.amount)
 }
 
 // The money of a payment.
@@ -91,7 +91,7 @@ fn check_item(m: &[u64], e: Event, charge: u64) -> Result<(), Refusal>
     let c = Collection::load(&m[COLLECTION..DEPOSIT]);
     Refusal::Closed.when(CLOSED <= c.service)?;
     let s = ledger::sums_of(&m[LEDGER..WORDS]);
-    table::arms::item_rows(s.open_count, s.charged, charge)
+    table::item_rows(s.open_count, s.charged, charge)
 }
 
 // A bill or a fee that passes.

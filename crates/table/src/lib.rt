@@ -2,7 +2,7 @@
 // Every function takes any View and any Event, and its contract is an equation with the rules' definition.
 #![tactic(auto)]
 
-pub mod arms;
+mod arms;
 
 ghost use Rattle.std.specs.Prelude.{◌≡◌, min};
 ghost use Rattle.basics.specs.Machine.{largest};
@@ -11,6 +11,7 @@ ghost use Rattle.rules.specs.Table.{row4 as Row4, charge_of, refusal_by};
 ghost use Rattle.table.specs.ByKind.{from_row5};
 ghost use Rattle.table.specs.Seen.{looks_at_debt};
 
+pub use arms::{credit_rows, item_rows};
 use rules::kinds::Kind;
 use rules::refusals::Refusal;
 use rules::{Event, View};
