@@ -1,5 +1,5 @@
 -- The part and its words: equal parts are equal memory, and an event that is none of the deposit's leaves them.
-use Prim.Native.Nat.{ℕ}
+use Prim.Native.Nat.{ℕ, ◌+◌}
 use mathlib.Core.Path.{◌≡◌, sym}
 use mathlib.Core.Bool.{false}
 use mathlib.Core.List.{List}
@@ -7,6 +7,8 @@ use native.Mathlib.Omega.{arith}
 use lib.ListN.{length}
 use Rattle.span.proofs.Law.{whole}
 use Rattle.rules.specs.declared.Event.{Event}
+use Rattle.rules.specs.Kinds.{deposit_asked, deposit_paid, deposit_moved, final_notice, disconnection, closing}
+use Rattle.rules.specs.History.{is}
 use Rattle.deposit.specs.declared.Deposit.{Deposit}
 use Rattle.deposit.specs.Deposit.{deposit_after, concerns, deposit_size, deposit_on, deposit_words}
 
@@ -14,5 +16,28 @@ pub deposit_whole : (w : List ℕ) → length w ≡ deposit_size → deposit_wor
 deposit_whole w l = sym (whole deposit_size w l)
 
 -- ---- an event that is none of the deposit's
+-- of each kind, by what the test says of it
+record Other (e : Event) : Type 0 where
+  asked : is deposit_asked e ≡ false
+  paid : is deposit_paid e ≡ false
+  moved : is deposit_moved e ≡ false
+  notice : is final_notice e ≡ false
+  cut : is disconnection e ≡ false
+  closed : is closing e ≡ false
+
+other : (e : Event) → concerns e ≡ false → Other e
+other e q =
+    record {
+      asked = grind arith;
+      paid = grind arith;
+      moved = grind arith;
+      notice = grind arith;
+      cut = grind arith;
+      closed = grind arith;
+    }
+
 pub deposit_other : (d : Deposit) (e : Event) → concerns e ≡ false → deposit_after d e ≡ d
-deposit_other d e q = grind arith
+deposit_other d e q =
+    let o = other e q in
+    let z : d.held + 0 ≡ d.held = omega arith in
+    rw (o.asked, o.paid, o.moved, o.notice, o.cut, o.closed, z)

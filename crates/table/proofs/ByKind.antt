@@ -2,6 +2,7 @@
 use Rattle.std.proofs.Common.{ℕ, ◌≤◌, ◌≡◌, true, false, eqb, arith}
 use Rattle.std.proofs.Common.{min, inl, inr, ◌⊎◌}
 use mathlib.Core.Bool.{or-false}
+use native.Mathlib.Nat.{zero-add}
 use borrow.Author.Tests.{ne_eqb, le-leb}
 use Rattle.rules.specs.declared.Event.{Event}
 use Rattle.rules.specs.declared.View.{View}
@@ -24,7 +25,7 @@ use Rattle.rules.specs.Kinds.{
 }
 use Rattle.rules.specs.Table.{charge_of}
 use Rattle.basics.specs.Machine.{largest}
-use Rattle.table.specs.ByKind.{from_row5, item_rows}
+use Rattle.table.specs.ByKind.{from_row5, item_rows, moved_rows, cut_rows, reconnection_rows}
 use Rattle.table.proofs.Equations.{passing}
 
 -- it is none of the sixteen
@@ -57,3 +58,17 @@ pub of_item : (v : View) (e : Event) (charge : ℕ) → charge ≡ min (charge_o
 unfolding from_row5
 of_item v e charge w (inl z) = rw (w, passing v.charged (charge_of v e)) (simp (z, or-false))
 of_item v e charge w (inr z) = rw (w, passing v.charged (charge_of v e)) (simp (z, or-false))
+
+-- ---- the rows of three kinds more, which the check of the code finds without them
+pub of_moved : (v : View) (e : Event) → e.kind ≡ deposit_moved → moved_rows v ≡ from_row5 v e
+unfolding from_row5
+of_moved v e z = simp (z, zero-add)
+
+pub of_disconnection : (v : View) (e : Event) → e.kind ≡ disconnection → cut_rows v ≡ from_row5 v e
+unfolding from_row5
+of_disconnection v e z = simp (z, or-false)
+
+pub of_reconnection : (v : View) (e : Event) (charge : ℕ) → charge ≡ min (charge_of v e) largest → e.kind ≡ reconnection
+    → reconnection_rows v charge ≡ from_row5 v e
+unfolding from_row5
+of_reconnection v e charge w z = rw (w, passing v.charged (charge_of v e)) (simp (z, or-false))
