@@ -1,5 +1,5 @@
 -- What is charged by an event of a kind that makes no item: nothing.
-use Rattle.std.proofs.Common.{ℕ, ◌≡◌, min, inl, inr, ◌⊎◌}
+use Rattle.std.proofs.Common.{◌≡◌, min, inl, inr, ◌⊎◌}
 use borrow.Author.Tests.{ne_eqb}
 use Rattle.basics.specs.Machine.{largest}
 use Rattle.rules.specs.declared.Event.{Event}

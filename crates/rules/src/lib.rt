@@ -14,7 +14,8 @@ ghost use Rattle.rules.specs.Kinds.{kind_number};
 use kinds::Kind;
 use refusals::Refusal;
 
-// One thing that happened to an account. specs/Kinds.antt names the sixteen kinds, specs/Range.antt the fields of each.
+// One thing that happened to an account. specs/Kinds.antt names the sixteen kinds, specs/Range.antt the fields of each. The kind stays a
+// number: any byte may come in a book or from C, and has an answer.
 #[derive(Clone, Copy)]
 pub struct Event {
     pub kind: u8,

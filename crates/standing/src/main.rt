@@ -14,7 +14,7 @@ use std::io::{Read, Write};
 use std::process::ExitCode;
 
 // Reads until the memory is full, the input ends or a read fails: how many bytes stand at the start of the memory then,
-// and whether none failed.
+// and whether none failed. A loop, and not the library's read_exact or read_to_end: after a failure they leave open what was read.
 fn read<R: Read>(input: &mut R, memory: &mut [u8]) -> (usize, io::Result<()>)
     ensures bound { IsPrefixLen result.0 memory.new }
     ensures bytes { Consumes (R.remaining input.old) (R.remaining input.new) (take result.0 memory.new) }
