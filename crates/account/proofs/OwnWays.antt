@@ -70,11 +70,6 @@ pub payment_row : (s : State) (e : Event) → e.kind ≡ payment → credit_rows
 unfolding refusal_by view
 payment_row s e z = simp (z, add-zero, and-false)
 
-closed_word : (n : ℕ) → leb 2 n ≡ is_closed (service_by n)
-closed_word n =
-    on_eq n 0 (λ q z. rw z) (λ q z.
-    on_eq n 1 (λ p y. rw y) (λ p y. rw (q, p) (le-leb 2 n (omega (arith, z, y)))))
-
 -- row 4 asks them whether the service is closed
 after_row4 : (v : View) (e : Event) → (e.kind ≡ bill) ⊎ (e.kind ≡ fee) → cond (is_closed v.service) 4 (from_row5 v e) ≡ refusal_by v e
 unfolding refusal_by from_row5
@@ -82,11 +77,11 @@ after_row4 v e (inl z) = simp (z, and-true)
 after_row4 v e (inr z) = simp (z, and-true)
 
 pub item_row : (s : State) (e : Event) (n : ℕ) → only_item e ≡ true → n ≡ min (charge_of (view s e) e) largest
-    → cond (leb 2 s.collection.service) 4 (item_rows (s.ledger.made - s.ledger.closed) s.ledger.charged n) ≡ refusal_by (view s e) e
+    → cond (is_closed (service_by s.collection.service)) 4 (item_rows (s.ledger.made - s.ledger.closed) s.ledger.charged n) ≡ refusal_by (view s e) e
 unfolding view
 item_row s e n o w =
-    rw (closed_word s.collection.service)
-    (ap (λ r. cond (is_closed (service_by s.collection.service)) 4 r) (of_item (view s e) e n w (either e o)) ∙ after_row4 (view s e) e (either e o))
+    ap (λ r. cond (is_closed (service_by s.collection.service)) 4 r) (of_item (view s e) e n w (either e o))
+    ∙ after_row4 (view s e) e (either e o)
 
 -- row 4 alone: it refuses, or lets pass
 pub row_err : (b : Bool) (n : ℕ) (r : Refusal) → Err r ≡ cond {A = Result (Unit {0}) Refusal} b (Err Closed) (Ok tt) → Err r ≡ answered (cond b 4 n) (tt {0})

@@ -10,7 +10,7 @@ ghost use Rattle.account.specs.Post.{Judges};
 ghost use Rattle.account.specs.Looks.{Became, Applied, Free, only_item};
 
 use crate::spans::{ARRANGEMENT, COLLECTION, DEPOSIT, LAST, LEDGER, RECEIPTS, WORDS};
-use collection::{CLOSED, Collection};
+use collection::Collection;
 use rules::kinds::Kind;
 use rules::refusals::Refusal;
 use rules::{Answer, Event};
@@ -89,7 +89,7 @@ fn check_item(m: &[u64], e: Event, charge: u64) -> Result<(), Refusal>
     ensures { result ≡ answered (refusal_by (view (state_on m.now) e) e) tt }
 {
     let c = Collection::load(&m[COLLECTION..DEPOSIT]);
-    Refusal::Closed.when(CLOSED <= c.service)?;
+    Refusal::Closed.when(c.service().is_closed())?;
     let s = ledger::sums_of(&m[LEDGER..WORDS]);
     table::item_rows(s.open_count, s.charged, charge)
 }

@@ -28,7 +28,7 @@ const ON: u64 = 0;
 
 const OFF: u64 = 1;
 
-pub const CLOSED: u64 = 2;
+const CLOSED: u64 = 2;
 
 // From the day after a call to the last day on which it counts.
 const CALLED_FOR: u64 = CALL_DAYS - 1;
