@@ -1,4 +1,4 @@
--- What the proofs of all questions cite: what is asked of k, which the test made of the memory m, by P, which the code says of it.
+-- What the search proves all questions by: what is asked of k, which the test made of the memory m, where P is what the code says of it.
 use Rattle.std.proofs.Common.{ℕ, ◌≡◌, refl, sym, ap, ◌∙◌, false, List, Result, Ok, Err, MatchResult, IsOkAnd}
 use Rattle.basics.proofs.Cases.{on}
 use Rattle.rules.specs.declared.refusals.Refusal.{Refusal}
