@@ -1,25 +1,36 @@
--- What the proofs of all questions cite; b is what the code found when it tested the memory m.
-use Prim.Native.Nat.{ℕ}
-use mathlib.Core.Path.{◌≡◌, sym, ◌∙◌}
-use mathlib.Core.Bool.{Bool, true, false}
-use mathlib.Core.List.{List}
-use lib.ListN.{length}
-use Rattle.account.specs.State.{State, account_size, state_on, passes, Fit}
-use Rattle.account.proofs.Exits.{passed_size, passed_fit}
-use Rattle.questions.specs.Questions.{asked_of}
+-- What the search proves all questions by: what is asked of k, which the test made of the memory m, where P is what the code says of it.
+use Rattle.std.proofs.Common.{ℕ, ◌≡◌, refl, sym, ap, ◌∙◌, false, List, Result, Ok, Err, MatchResult, IsOkAnd}
+use Rattle.basics.proofs.Cases.{on}
+use Rattle.rules.specs.declared.refusals.Refusal.{Refusal}
+use Rattle.rules.specs.declared.refusals.Refusal.TheVariants.{NoAccount}
+use Rattle.rules.proofs.Numbered.{answered_err}
+use Rattle.account.specs.State.{State, state_on, passes}
+use Rattle.questions.specs.declared.known.Known.{Known}
+use Rattle.questions.specs.Questions.{asked_of, day_refusal_by, told_on}
 
-module _ (m : List ℕ) {b : Bool} where
-  pub size_of : b ≡ passes m → b ≡ true → length m ≡ account_size
-  size_of tested q = passed_size m (sym tested ∙ q)
+module _ (m : List ℕ) {A : Type 0} (ask : State → A) where
+  pub asked_is : (none : A) (k : Result Known Refusal) {r : A} {P : Known → Type 0}
+      → MatchResult k (λ a. a.words.now ≡ m) (λ e. (passes m ≡ false) × (e ≡ NoAccount))
+      → MatchResult k P (λ _. r ≡ none)
+      → ((a : Known) → P a → r ≡ ask (state_on a.words.now))
+      → r ≡ asked_of m ask none
+  unfolding asked_of
+  asked_is none (Ok a) s e f = rw (sym s, a.passed, f a e) refl
+  asked_is none (Err x) s e f = rw (s.0, e) refl
 
-  pub fit_of : b ≡ passes m → b ≡ true → Fit m
-  fit_of tested q = passed_fit m (sym tested ∙ q)
-
-  module _ {A : Type 0} (ask : State → A) (none : A) where
-    pub asked_yes : {r : A} → b ≡ passes m → b ≡ true → r ≡ ask (state_on m) → r ≡ asked_of m ask none
-    unfolding asked_of
-    asked_yes tested q told = told ∙ rw (sym tested ∙ q)
-
-    pub asked_no : b ≡ passes m → b ≡ false → none ≡ asked_of m ask none
-    unfolding asked_of
-    asked_no tested q = rw (sym tested ∙ q)
+  -- for day t
+  pub told_is : (t : ℕ) (k : Result Known Refusal) (r : Result A Refusal) {P : Known → A → Type 0}
+      → MatchResult k (λ a. (a.words.now ≡ m) × (day_refusal_by (state_on m) t ≡ 0)) (λ e. Err e ≡ told_on m t (λ s. s.last))
+      → MatchResult k (λ a. IsOkAnd r (P a)) (λ e. r ≡ Err e)
+      → ((a : Known) (x : A) → P a x → x ≡ ask (state_on a.words.now))
+      → r ≡ told_on m t ask
+  unfolding asked_of
+  told_is t (Ok a) (Ok x) s e f =
+      let told : x ≡ ask (state_on m) = f a x e ∙ ap (λ w. ask (state_on w)) s.0 in
+      rw (rw s.0 at a.passed, s.1) (ap Ok told)
+  told_is t (Ok a) (Err x) s e f = absurd e
+  told_is t (Err x) r s e f =
+      e
+      ∙ on (passes m)
+      (λ q. rw q (answered_err (day_refusal_by (state_on m) t) x _ (ask (state_on m)) (rw q at s)).1)
+      (λ q. let none : Err x ≡ Err NoAccount = rw q at s in let same : x ≡ NoAccount = cc in rw (q, same) refl)

@@ -1,82 +1,56 @@
 // What an account answers, asked in any memory. What is no account owes and holds nothing, has no open items and is closed.
-#![tactic(auto)]
+#![tactic(auto, using(crate::proofs::Asked::asked_is, crate::proofs::Asked::told_is), unfolding(crate::specs::Questions::asked_of))]
 
 mod days;
+mod known;
 
 ghost use Rattle.std.specs.Prelude.{◌≡◌, get_or};
 ghost use Rattle.ledger.specs.Ledger.{no_item};
 ghost use Rattle.questions.specs.Questions.{owed_in, held_in, required_in, service_in, open_in, count_in};
 
-use account::passes;
-use account::spans::{COLLECTION, DEPOSIT, LEDGER, MEDICAL, WORDS};
-use collection::Collection;
 pub use days::{arrears, certified, in_force, notice_live};
-use deposit::Deposit;
+use known::Known;
 use ledger::OpenItem;
 use rules::Service;
-use span::Part;
 
 // What is owed, negative where there is credit.
 pub fn owed(m: &[u64]) -> i64
     ensures { result ≡ owed_in m.now }
 {
-    if passes(m) {
-        ledger::owed(&m[LEDGER..WORDS])
-    } else {
-        0
-    }
+    Known::of(m).map_or(0, |a| ledger::owed(a.ledger()))
 }
 
 // The deposit held.
 pub fn held(m: &[u64]) -> u64
     ensures { result ≡ held_in m.now }
 {
-    if passes(m) {
-        Deposit::load(&m[DEPOSIT..MEDICAL]).held
-    } else {
-        0
-    }
+    Known::of(m).map_or(0, |a| a.deposit().held)
 }
 
 // The deposit required.
 pub fn required(m: &[u64]) -> u64
     ensures { result ≡ required_in m.now }
 {
-    if passes(m) {
-        Deposit::load(&m[DEPOSIT..MEDICAL]).required
-    } else {
-        0
-    }
+    Known::of(m).map_or(0, |a| a.deposit().required)
 }
 
 pub fn service(m: &[u64]) -> Service
     ensures { result ≡ service_in m.now }
 {
-    if passes(m) {
-        Collection::load(&m[COLLECTION..DEPOSIT]).service()
-    } else {
-        Service::Closed
-    }
+    Known::of(m).map_or(Service::Closed, |a| a.collection().service())
 }
 
 // How many items are open.
 pub fn open_count(m: &[u64]) -> u64
     ensures { result ≡ count_in m.now }
 {
-    if passes(m) {
-        ledger::sums_of(&m[LEDGER..WORDS]).open_count
-    } else {
-        0
-    }
+    Known::of(m).map_or(0, |a| ledger::sums_of(a.ledger()).open_count)
 }
 
 // The day and the unpaid part of open item i, from 0 in the order posted; both 0 past the last.
 pub fn open_item(m: &[u64], i: usize) -> OpenItem
     ensures { result ≡ get_or (open_in m.now) i no_item }
 {
-    if passes(m) {
-        ledger::open_item(&m[LEDGER..WORDS], i as u64)
-    } else {
-        OpenItem { day: 0, unpaid: 0 }
-    }
+    let none = OpenItem { day: 0, unpaid: 0 };
+    Known::of(m).map_or(none, |a| ledger::open_item(a.ledger(), i as u64))
 }

@@ -1,0 +1,20 @@
+use Rattle.std.proofs.Common.{refl}
+use Rattle.std.proofs.lemmas.Result.{err_from_is_err_and}
+use Rattle.rules.proofs.Numbered.{answered_err}
+use Rattle.account.specs.State.{state_on}
+use Rattle.questions.specs.Questions.{asked_of, day_refusal_by}
+use Rattle.questions.proofs.known.Known.on_day.Goals as goal
+
+pub returns-in_err-account : goal.returns-in_err-account
+unfolding asked_of
+returns-in_err-account c =
+    let p = err_from_is_err_and c.from_residual.result c.from_residual.ensures.1 in
+    rw (p.1, p.2, c.in_err-account.ensures.1, c.in_err-account.ensures.0) refl
+
+pub returns-in_err-check_day : goal.returns-in_err-check_day
+unfolding asked_of
+returns-in_err-check_day c =
+    let p = err_from_is_err_and c.from_residual-in_err-check_day.result c.from_residual-in_err-check_day.ensures.1 in
+    let passed = rw c.in_ok-account.ensures at c.in_ok-account.account.passed in
+    let n = day_refusal_by (state_on c.args.m.now) c.args.t in
+    rw (p.1, p.2, passed) (answered_err n _ _ (state_on c.args.m.now).last (rw (c.last.ensures, c.from.ensures, c.in_ok-account.ensures) at c.in_err-check_day.ensures)).1
