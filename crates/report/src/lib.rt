@@ -110,11 +110,7 @@ fn account_length(book: Book, i: usize) -> usize
 fn lines_length(book: Book) -> usize
     ensures { let b = book.entry.bytes.now in (result ≡ length (lines_of 0 (decode b))) × (result ≤ longest_line * accounts b) }
 {
-    let mut sum = 0;
-    for i in 0..book.accounts() {
-        sum += account_length(book, i);
-    }
-    sum
+    (0..book.accounts()).map(|i| account_length(book, i)).sum()
 }
 
 // Whether output of room bytes is too short for the text. Mostly the room is plenty, and nothing has to be posted for it.
