@@ -1,9 +1,11 @@
-// Books in lent bytes: tested in one pass, and one record or account at a time found without a copy.
+// Books in lent bytes: tested in one pass, and one record or account at a time found without a copy. A `Book` is bytes that
+// passed the test; the functions beside it answer for any bytes.
 #![tactic(auto)]
 
-ghost use Rattle.std.specs.Prelude.{◌≡◌, ◌+◌, ◌*◌, ◌<◌, ◌≤◌, length};
+ghost use Rattle.std.specs.Prelude.{◌≡◌, ◌+◌, ◌*◌, ◌<◌, ◌≤◌, length, Err, MatchResult};
 ghost use Rattle.rules.specs.Answer.{answered};
-ghost use Rattle.bookformat.specs.Book.{most_accounts, base, record_fine, records_fine, table_fine, header_fine, book_refusal};
+ghost use Rattle.bookformat.specs.Book.{most_accounts, accounts, base, record_fine, records_fine, table_fine, header_fine, book_refusal};
+ghost use Rattle.bookformat.specs.Answers.{outcome_of};
 ghost use Rattle.bookformat.specs.Finding.{entries, whole_records, record_at, record_of, span_at, IsAccount};
 
 use bookformat::{
@@ -118,5 +120,43 @@ pub fn account(b: &[u8], i: usize) -> Span
     Span {
         first: offset.saturating_sub(base(accounts(b))) / RECORD,
         count,
+    }
+}
+
+// A book that passed the test.
+#[derive(Clone, Copy)]
+pub struct Book<'a> {
+    pub bytes: &'a [u8],
+    ghost sound: { book_refusal bytes.now ≡ 0 },
+}
+
+impl<'a> Book<'a> {
+    // The test: the book of the bytes b, or why it is refused.
+    pub fn read(b: &'a [u8]) -> Result<Book<'a>, Refusal>
+        ensures { MatchResult result (λ book. book.bytes.now ≡ b.now) (λ refusal. Err refusal ≡ outcome_of (book_refusal b.now)) }
+    {
+        check(b)?;
+        Ok(Book { bytes: b })
+    }
+
+    // How many accounts it has.
+    pub fn accounts(self) -> usize
+        ensures { (result ≡ accounts self.entry.bytes.now) × (result ≤ most_accounts) }
+    {
+        accounts(self.bytes)
+    }
+
+    // Where the records of account i are; no records past the end.
+    pub fn account(self, i: usize) -> Span
+        ensures { IsAccount self.entry.bytes.now i result }
+    {
+        account(self.bytes, i)
+    }
+
+    // Record k, counted over all accounts; a record of kind 0 past the end.
+    pub fn record(self, k: usize) -> Event
+        ensures { result ≡ record_of self.entry.bytes.now k }
+    {
+        record(self.bytes, k)
     }
 }

@@ -1,5 +1,5 @@
 -- One turn of noting a history: what is still to be noted, of the account so far, gives the whole.
-use Prim.Native.Nat.{ℕ, suc, ◌+◌, ◌-◌, ◌≤◌, ◌<◌}
+use Prim.Native.Nat.{ℕ, zero, suc, ◌+◌, ◌-◌, ◌≤◌, ◌<◌}
 use mathlib.Core.Path.{◌≡◌, refl, sym, ap, ◌∙◌}
 use mathlib.Core.Bool.{Bool, true, false, not, cond, ◌&&◌}
 use Rattle.std.proofs.Common.{Result, Ok, Err}
@@ -23,7 +23,7 @@ use Rattle.rules.specs.Accepted.{Lawful, offered, answers_after, answers_by}
 use Rattle.rules.proofs.Lawful.{offered_lawful}
 use Rattle.little.proofs.Stores.{sets_front}
 use Rattle.bookformat.specs.declared.Span.{Span}
-use Rattle.bookformat.specs.Lent.{after}
+use Rattle.bookformat.specs.Lent.{after, or_else}
 use Rattle.bookformat.specs.Answers.{outcome_of}
 use Rattle.bookformat.proofs.Told.{told, unchanged, or_zero, book_in_table, or_in_table}
 use Rattle.bookformat.specs.Book.{records, book_refusal, flat, decode}
@@ -150,6 +150,11 @@ history_in_table b i n m =
     let t = leb (length (book_account b i)) n && leb (length (book_account b i)) m in
     or_in_table (book_refusal b) (cond t 0 22) (book_in_table b) (on t (λ q. rw q (omega arith)) (λ q. rw q (omega arith)))
 
+-- a book that is refused refuses the history with the same number
+pub book_first : (n x : ℕ) (r : Refusal) → Err r ≡ outcome_of n → Err r ≡ outcome_of (or_else n x)
+book_first zero x r e = absurd (cc)
+book_first (suc n) x r e = e
+
 -- a history that is refused leaves both slices as they were
 pub history_none : (b : List ℕ) (i : ℕ) (ns : List ℕ) (os : List ℤ) (r : Refusal) → Err r ≡ outcome_of (history_refusal b i (length ns) (length os))
     → ToldHistory b i ns ns os os (refusal_number r)
@@ -159,13 +164,12 @@ history_none b i ns os r e =
     record { answer = t.0; numbers = unchanged n _ ns t.1; owing = unchanged n _ os t.1 }
 
 module _ (b : List ℕ) (i : ℕ) (ns : List ℕ) (os : List ℤ) (z : history_refusal b i (length ns) (length os) ≡ 0) where
-  pub history_room : (book_refusal b ≡ 0) × (length (book_account b i) ≤ length ns) × (length (book_account b i) ≤ length os)
+  pub history_room : (length (book_account b i) ≤ length ns) × (length (book_account b i) ≤ length os)
   history_room =
       let n = length (book_account b i) in
       let r = or_zero (book_refusal b) (cond (leb n (length ns) && leb n (length os)) 0 22) z in
       let t : (leb n (length ns) && leb n (length os)) ≡ true =
       on (leb n (length ns) && leb n (length os)) (λ q. q) (λ q. absurd (omega (arith, rw q at r.1))) in (
-        r.0,
         leb-true n (length ns) (and_left (leb n (length ns)) (leb n (length os)) t),
         leb-true n (length os) (and_right (leb n (length ns)) (leb n (length os)) t),
       )
@@ -176,6 +180,6 @@ module _ (b : List ℕ) (i : ℕ) (ns : List ℕ) (os : List ℤ) (z : history_r
       let es = book_account b i in
       record {
         answer = sym z;
-        numbers = p ∙ (sets_front (numbers_of es) ns (omega (arith, length_numbers es, history_room.1)) ∙ sym (ap (λ n. after n (numbers_of es) ns) z));
-        owing = q ∙ (sets_front (owed_from [] es) os (omega (arith, length_owed [] es, history_room.2)) ∙ sym (ap (λ n. after n (owed_from [] es) os) z));
+        numbers = p ∙ (sets_front (numbers_of es) ns (omega (arith, length_numbers es, history_room.0)) ∙ sym (ap (λ n. after n (numbers_of es) ns) z));
+        owing = q ∙ (sets_front (owed_from [] es) os (omega (arith, length_owed [] es, history_room.1)) ∙ sym (ap (λ n. after n (owed_from [] es) os) z));
       }

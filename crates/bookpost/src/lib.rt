@@ -4,7 +4,6 @@
 ghost use Rattle.std.specs.Prelude.{◌≡◌, cond, [], ◌≤◌, length};
 ghost use Rattle.rules.specs.Answer.{answered};
 ghost use Rattle.std.proofs.lemmas.List.Edits.{sets};
-ghost use Rattle.bookformat.specs.Book.{book_refusal};
 ghost use Rattle.bookformat.specs.Answers.{outcome_number, outcome_of};
 ghost use Rattle.bookformat.specs.Finding.{book_account};
 ghost use Rattle.account.specs.State.{fresh_words};
@@ -12,7 +11,8 @@ ghost use Rattle.claim.specs.Claim.{accepts, Ran};
 ghost use Rattle.bookpost.specs.BookHistory.{numbers_of, owed_from, history_refusal, ToldHistory};
 
 use account::{Account, judge};
-use bookformat::{RECORD, accounts, base, event_at};
+use book::Book;
+use bookformat::{RECORD, base, event_at};
 use lent::post_through;
 use rules::Answer;
 use rules::refusals::{Refusal, number_of};
@@ -24,17 +24,16 @@ fn refusals(a: Answer) -> u64
     u64::from(a.is_err())
 }
 
-// Account i of an accepted book, judged record by record in lent memory that is a fresh account; says how many records were
-// refused.
-pub fn run_account(b: &[u8], i: usize, m: &mut [u64]) -> u64
-    requires { (book_refusal b.now ≡ 0) × (m.old ≡ fresh_words) }
-    ensures { Ran m.new result (book_account b.now i) }
+// Account i of a book, judged record by record in lent memory that is a fresh account; says how many records were refused.
+pub fn run_account(book: Book, i: usize, m: &mut [u64]) -> u64
+    requires { m.old ≡ fresh_words }
+    ensures { Ran m.new result (book_account book.entry.bytes.now i) }
 {
-    let s = book::account(b, i);
-    let start = base(accounts(b));
+    let s = book.account(i);
+    let start = base(book.accounts());
     let mut refused: u64 = 0;
     for k in s.first..s.first + s.count {
-        let e = event_at(b, start + RECORD * k);
+        let e = event_at(book.bytes, start + RECORD * k);
         let answer = judge(m, e);
         refused += refusals(answer);
     }
@@ -42,14 +41,14 @@ pub fn run_account(b: &[u8], i: usize, m: &mut [u64]) -> u64
 }
 
 // Notes the answer to each record of account i and what is owed after it, from the start of both slices on.
-fn note_account(b: &[u8], i: usize, numbers: &mut [u8], owed: &mut [i64])
-    requires { (book_refusal b.now ≡ 0) × (length (book_account b.now i) ≤ length numbers.old) × (length (book_account b.now i) ≤ length owed.old) }
-    ensures { (numbers.new ≡ sets numbers.old 0 (numbers_of (book_account b.now i))) × (owed.new ≡ sets owed.old 0 (owed_from [] (book_account b.now i))) }
+fn note_account(book: Book, i: usize, numbers: &mut [u8], owed: &mut [i64])
+    requires { (length (book_account book.bytes.now i) ≤ length numbers.old) × (length (book_account book.bytes.now i) ≤ length owed.old) }
+    ensures { let es = book_account book.entry.bytes.now i in (numbers.new ≡ sets numbers.old 0 (numbers_of es)) × (owed.new ≡ sets owed.old 0 (owed_from [] es)) }
 {
-    let s = book::account(b, i);
+    let s = book.account(i);
     let mut account = Account::fresh();
     for at in 0..s.count {
-        let p = post_through(account, book::record(b, s.first + at));
+        let p = post_through(account, book.record(s.first + at));
         account = p.account;
         numbers[at] = number_of(p.answer);
         owed[at] = questions::owed(&account.memory);
@@ -57,11 +56,10 @@ fn note_account(b: &[u8], i: usize, numbers: &mut [u8], owed: &mut [i64])
 }
 
 // Whether the history of account i can be told into slices of n and m places.
-fn check_history(b: &[u8], i: usize, n: usize, m: usize) -> Result<(), Refusal>
-    ensures { result ≡ answered (history_refusal b.now i n m) tt }
+fn check_history(book: Book, i: usize, n: usize, m: usize) -> Result<(), Refusal>
+    ensures { result ≡ answered (history_refusal book.entry.bytes.now i n m) tt }
 {
-    book::check(b)?;
-    let s = book::account(b, i);
+    let s = book.account(i);
     let enough = (s.count <= n) & (s.count <= m);
     Refusal::TooShort.when(!enough)
 }
@@ -72,7 +70,8 @@ pub fn history(b: &[u8], i: usize, numbers: &mut [u8], owed: &mut [i64]) -> Resu
     ensures told_history { ToldHistory b.now i numbers.old numbers.new owed.old owed.new (outcome_number result) }
     ensures outcome { result ≡ outcome_of (outcome_number result) }
 {
-    check_history(b, i, numbers.len(), owed.len())?;
-    note_account(b, i, numbers, owed);
+    let book = Book::read(b)?;
+    check_history(book, i, numbers.len(), owed.len())?;
+    note_account(book, i, numbers, owed);
     Ok(())
 }

@@ -11,14 +11,15 @@ use lib.ListN.{length, drop, length-append, drop_of_length-le}
 use lib.Seq.{sets, drop-cons, length-sets}
 use Rattle.basics.specs.Ascii.{ascii}
 use Rattle.little.proofs.Stores.{sets_front, sets_then}
-use Rattle.bookformat.specs.Book.{most_accounts, accounts, book_refusal, decode}
+use Rattle.bookformat.specs.Book.{accounts, book_refusal, decode}
 use Rattle.bookformat.specs.Finding.{book_account}
-use Rattle.bookformat.proofs.Told.{book_facts}
 use Rattle.bookformat.proofs.Found.{decode_length}
 use Rattle.text.specs.Decimal.{width, decimal}
 use Rattle.text.specs.Put.{Put}
 use Rattle.text.proofs.Numerals.{length_decimal, length_marked}
 use Rattle.report.specs.Report.{heading, line_of, lines_of, listing, refused_text, text_by, room_for, WroteText}
+use Rattle.std.specs.List.{sum_by, range_with_len}
+use Rattle.std.proofs.lemmas.List.Sums.{sum_by-cons}
 use Rattle.std.proofs.Common.{Ok, Err}
 use Rattle.rules.specs.declared.refusals.Refusal.{Refusal}
 use Rattle.rules.specs.declared.refusals.Refusal.TheVariants.{TooShort}
@@ -72,27 +73,28 @@ module _ (b out₀ out : List ℕ) (p at i : ℕ) (w : Writing b out₀ out p at
       }
 
 -- ---- counting their bytes
-pub record Counting (b : List ℕ) (sum i : ℕ) : Type 0 where
-  pub whole : sum + length (remaining b i) ≡ length (lines_of 0 (decode b))
-  pub upto : i ≤ accounts b
-  pub small : sum ≤ 113 * i
-  pub few : accounts b ≤ most_accounts
+-- how long the line of account i is
+abbrev pub line_size : List ℕ → ℕ → ℕ
+line_size b i = length (line_of i (book_account b i))
 
-pub count_begin : (b : List ℕ) → book_refusal b ≡ 0 → Counting b 0 0
-count_begin b z = record { whole = omega arith; upto = omega arith; small = omega arith; few = (book_facts b z).0.few }
+-- those of the accounts from i on, together
+sizes_from : (b : List ℕ) (left i : ℕ) → i + left ≡ accounts b → sum_by (line_size b) (range_with_len i left) ≡ length (remaining b i)
+sizes_from b zero i e = sym (ap length (none_left b i (omega arith)))
+sizes_from b (suc left) i e =
+    let l = line_of i (book_account b i) in
+    omega (
+      arith,
+      sum_by-cons (line_size b) i (range_with_len (i + 1) left),
+      sizes_from b left (i + 1) (omega arith),
+      ap length (next_line b i (omega arith)),
+      length-append l (remaining b (i + 1)),
+    )
 
-module _ (b : List ℕ) (sum i : ℕ) (c : Counting b sum i) where
-  pub line_counted : (n : ℕ) → i < accounts b → n ≡ length (line_of i (book_account b i)) → n ≤ 113 → Counting b (sum + n) (i + 1)
-  line_counted n h e m =
-      record {
-        whole = omega (arith, c.whole, e, ap length (next_line b i h), length-append (line_of i (book_account b i)) (remaining b (i + 1)));
-        upto = omega arith;
-        small = omega (arith, c.small);
-        few = c.few;
-      }
+pub all_sizes : (b : List ℕ) → sum_by (line_size b) (range_with_len 0 (accounts b)) ≡ length (lines_of 0 (decode b))
+all_sizes b = sizes_from b (accounts b) 0 (omega arith)
 
-  pub all_counted : accounts b ≤ i → sum ≡ length (lines_of 0 (decode b))
-  all_counted h = omega (arith, c.whole, ap length (none_left b i h))
+pub sizes_short : (b : List ℕ) → sum_by (line_size b) (range_with_len 0 (accounts b)) ≤ 113 * accounts b
+sizes_short b = omega (arith, all_sizes b, lines_short 0 (decode b), decode_length b)
 
 -- ---- the whole
 module _ (b : List ℕ) where

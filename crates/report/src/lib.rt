@@ -6,7 +6,7 @@ mod line;
 ghost use Rattle.std.specs.Prelude.{◌≡◌, ◌+◌, ◌*◌, ◌≤◌, ◌<◌, ltb, length};
 ghost use Rattle.rules.specs.Refusals.{refusal_number};
 ghost use Rattle.rules.specs.Accepted.{accepted};
-ghost use Rattle.bookformat.specs.Book.{accounts, book_refusal, decode};
+ghost use Rattle.bookformat.specs.Book.{accounts, decode};
 ghost use Rattle.bookformat.specs.Finding.{book_account};
 ghost use Rattle.text.specs.Put.{Put};
 ghost use Rattle.account.specs.State.{account_size};
@@ -15,7 +15,8 @@ ghost use Rattle.report.specs.Report.{longest_line, line_of, lines_of, listing, 
 
 use account::spans::{COLLECTION, DEPOSIT, LEDGER, MEDICAL};
 use account::{Account, WORDS};
-use bookformat::{MOST_ACCOUNTS, accounts};
+use book::Book;
+use bookformat::MOST_ACCOUNTS;
 use bookpost::run_account;
 use collection::Collection;
 use deposit::Deposit;
@@ -68,75 +69,67 @@ fn standing_in(m: &[u64], refused: u64) -> Standing
     }
 }
 
-// Where account i of an accepted book stands: it is posted in memory of this function's own.
-fn standing_of(b: &[u8], i: usize) -> Standing
-    requires { book_refusal b.now ≡ 0 }
-    ensures { Stands result (book_account b.now i) (accepted (book_account b.now i)) }
+// Where account i of a book stands: it is posted in memory of this function's own.
+fn standing_of(book: Book, i: usize) -> Standing
+    ensures { let es = book_account book.entry.bytes.now i in Stands result es (accepted es) }
 {
     let mut memory = Account::fresh().memory;
-    let refused = run_account(b, i, &mut memory);
+    let refused = run_account(book, i, &mut memory);
     standing_in(&memory, refused)
 }
 
 // Stores the line of account i, and says where the text goes on.
-fn put_account(b: &[u8], i: usize, out: &mut [u8], p: usize) -> usize
-    requires { (book_refusal b.now ≡ 0) × (p + length (line_of i (book_account b.now i)) ≤ length out.old) }
-    ensures { Put (line_of i (book_account b.now i)) out.old out.new p result }
+fn put_account(book: Book, i: usize, out: &mut [u8], p: usize) -> usize
+    requires { p + length (line_of i (book_account book.bytes.now i)) ≤ length out.old }
+    ensures { Put (line_of i (book_account book.entry.bytes.now i)) out.old out.new p result }
 {
-    let s = standing_of(b, i);
+    let s = standing_of(book, i);
     put_line(out, p, i as u64, s)
 }
 
-// Stores the lines of all n accounts.
-fn put_lines(b: &[u8], n: usize, out: &mut [u8], p: usize) -> usize
-    requires { (book_refusal b.now ≡ 0) × (n ≡ accounts b.now) × (p + length (lines_of 0 (decode b.now)) ≤ length out.old) }
-    ensures { Put (lines_of 0 (decode b.now)) out.old out.new p result }
+// Stores the lines of all accounts.
+fn put_lines(book: Book, out: &mut [u8], p: usize) -> usize
+    requires { p + length (lines_of 0 (decode book.bytes.now)) ≤ length out.old }
+    ensures { Put (lines_of 0 (decode book.entry.bytes.now)) out.old out.new p result }
 {
     let mut at = p;
-    for i in 0..n {
-        at = put_account(b, i, out, at);
+    for i in 0..book.accounts() {
+        at = put_account(book, i, out, at);
     }
     at
 }
 
 // How long the line of account i is, 113 bytes at most: it is stored where nobody reads it.
-fn account_length(b: &[u8], i: usize) -> usize
-    requires { book_refusal b.now ≡ 0 }
-    ensures { (result ≡ length (line_of i (book_account b.now i))) × (result ≤ longest_line) }
+fn account_length(book: Book, i: usize) -> usize
+    ensures { (result ≡ length (line_of i (book_account book.entry.bytes.now i))) × (result ≤ longest_line) }
 {
-    put_account(b, i, &mut [0; LINE], 0)
+    put_account(book, i, &mut [0; LINE], 0)
 }
 
-// How long the lines of all n accounts are.
-fn lines_length(b: &[u8], n: usize) -> usize
-    requires { (book_refusal b.now ≡ 0) × (n ≡ accounts b.now) }
-    ensures { (result ≡ length (lines_of 0 (decode b.now))) × (result ≤ longest_line * n) }
+// How long the lines of all accounts are.
+fn lines_length(book: Book) -> usize
+    ensures { let b = book.entry.bytes.now in (result ≡ length (lines_of 0 (decode b))) × (result ≤ longest_line * accounts b) }
 {
-    let mut sum = 0;
-    for i in 0..n {
-        sum += account_length(b, i);
-    }
-    sum
+    (0..book.accounts()).map(|i| account_length(book, i)).sum()
 }
 
 // Whether output of room bytes is too short for the text. Mostly the room is plenty, and nothing has to be posted for it.
-fn is_short(b: &[u8], n: usize, room: usize) -> bool
-    requires { (book_refusal b.now ≡ 0) × (n ≡ accounts b.now) }
-    ensures { result ≡ ltb room (length (listing b.now)) }
+fn is_short(book: Book, room: usize) -> bool
+    ensures { result ≡ ltb room (length (listing book.entry.bytes.now)) }
 {
-    if FIRST_LINE + LINE * n <= room {
+    if FIRST_LINE + LINE * book.accounts() <= room {
         return false;
     }
-    room < FIRST_LINE + lines_length(b, n)
+    room < FIRST_LINE + lines_length(book)
 }
 
 // Stores the heading and the lines, where the output is long enough.
-fn put_listing(b: &[u8], n: usize, out: &mut [u8]) -> usize
-    requires { (book_refusal b.now ≡ 0) × (n ≡ accounts b.now) × (length (listing b.now) ≤ length out.old) }
-    ensures { Put (listing b.now) out.old out.new 0 result }
+fn put_listing(book: Book, out: &mut [u8]) -> usize
+    requires { length (listing book.bytes.now) ≤ length out.old }
+    ensures { Put (listing book.entry.bytes.now) out.old out.new 0 result }
 {
     let p = put_bytes(out, 0, &HEADING);
-    put_lines(b, n, out, p)
+    put_lines(book, out, p)
 }
 
 // The text for a book that is refused.
@@ -155,14 +148,14 @@ fn put_refusal(out: &mut [u8], refusal: Refusal) -> Result<usize, Refusal>
 pub fn report(b: &[u8], out: &mut [u8]) -> Result<usize, Refusal>
     ensures { Reported b.now out.old out.new result }
 {
-    if let Err(refusal) = book::check(b) {
-        return put_refusal(out, refusal);
-    }
-    let n = accounts(b);
-    if is_short(b, n, out.len()) {
+    let book = match Book::read(b) {
+        Ok(book) => book,
+        Err(refusal) => return put_refusal(out, refusal),
+    };
+    if is_short(book, out.len()) {
         return Err(Refusal::TooShort);
     }
-    Ok(put_listing(b, n, out))
+    Ok(put_listing(book, out))
 }
 
 // The same for what the program `standing` read: more than 65,536 bytes are refused with 20.

@@ -1,23 +1,30 @@
 use Rattle.std.proofs.Common.{length}
 use Rattle.std.proofs.lemmas.Result.{err_from_is_err_and}
 use Rattle.rules.proofs.Numbered.{answered_ok}
-use Rattle.bookpost.proofs.Noting.{history_room, history_told, history_none}
+use Rattle.bookpost.proofs.Noting.{book_first, history_room, history_told, history_none}
 use Rattle.bookpost.specs.BookHistory.{history_refusal}
 use Rattle.bookpost.proofs.history.Goals as goal
 
+pub returns-in_err-book-clause-told_history : goal.returns-in_err-book-clause-told_history
+returns-in_err-book-clause-told_history c =
+    let p = err_from_is_err_and c.from_residual.result c.from_residual.ensures.1 in
+    rw (p.1, p.2) (history_none _ _ _ _ _ (book_first _ _ _ c.in_err-book.ensures))
+
 pub returns-in_err-check_history-clause-told_history : goal.returns-in_err-check_history-clause-told_history
 returns-in_err-check_history-clause-told_history c =
-    let p = err_from_is_err_and c.from_residual.result c.from_residual.ensures.1 in
-    rw (p.1, p.2) (history_none _ _ _ _ _ c.in_err-check_history.ensures)
+    let p = err_from_is_err_and c.from_residual-in_err-check_history.result c.from_residual-in_err-check_history.ensures.1 in
+    rw (p.1, p.2, ← c.in_ok-book.ensures) (history_none _ _ _ _ _ c.in_err-check_history.ensures)
 
 pub note_account-requires : goal.note_account-requires
 note_account-requires c =
     let a = c.args in
-    history_room a.b.now a.i a.numbers.now a.owed.now
-    (answered_ok (history_refusal a.b.now a.i (length a.numbers.now) (length a.owed.now)) _ _ c.in_ok-check_history.ensures).0
+    let b = c.in_ok-book.book.bytes.now in
+    history_room b a.i a.numbers.now a.owed.now
+    (answered_ok (history_refusal b a.i (length a.numbers.now) (length a.owed.now)) _ _ c.in_ok-check_history.ensures).0
 
 pub returns-clause-told_history : goal.returns-clause-told_history
 returns-clause-told_history c =
     let a = c.args in
-    let e = (answered_ok (history_refusal a.b.now a.i (length a.numbers.now) (length a.owed.now)) _ _ c.in_ok-check_history.ensures).0 in
-    history_told a.b.now a.i a.numbers.now a.owed.now e _ _ c.note_account.ensures.0 c.note_account.ensures.1
+    let b = c.in_ok-book.book.bytes.now in
+    let e = (answered_ok (history_refusal b a.i (length a.numbers.now) (length a.owed.now)) _ _ c.in_ok-check_history.ensures).0 in
+    rw (← c.in_ok-book.ensures) (history_told b a.i a.numbers.now a.owed.now e _ _ c.note_account.ensures.0 c.note_account.ensures.1)

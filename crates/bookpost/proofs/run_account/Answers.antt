@@ -5,18 +5,15 @@ use Rattle.bookformat.proofs.Found.{record_at_lem}
 use Rattle.bookpost.proofs.Posting.{turning_begun, fit, turn, finish}
 use Rattle.bookpost.proofs.run_account.Goals as goal
 
-pub accounts-requires : goal.accounts-requires
-accounts-requires c = (book_facts c.args.b.now c.requires.0).0.long
-
 pub loop-k-init : goal.loop-k-init
 loop-k-init c =
     let s = c.account-s.result in
     let z : s.first + s.count - s.first ≡ s.count = omega arith in
-    rw z (turning_begun _ _ s c.args.m.now (c.account-s.ensures.in_book c.requires.0) c.requires.1)
+    rw z (turning_begun _ _ s c.args.m.now c.account-s.ensures c.requires)
 
 pub overflow_mul-k : goal.overflow_mul-k
 overflow_mul-k c =
-    let f = (book_facts c.args.b.now c.requires.0).0 in
+    let f = (book_facts c.args.book.bytes.now c.args.book.sound).0 in
     omega (arith, c.loop-k.invariant.within, c.loop-k-test.true, f.whole, f.short, f.few, c.accounts.ensures.0, c.base-start.ensures)
 
 pub judge-answer-requires : goal.judge-answer-requires
@@ -25,8 +22,8 @@ judge-answer-requires c = let l = c.loop-k in fit _ _ l.k _ l.m l.refused l.inva
 pub loop-k-preserved : goal.loop-k-preserved
 loop-k-preserved c =
     let l = c.loop-k in
-    let b = c.args.b.now in
-    let z = c.requires.0 in
+    let b = c.args.book.bytes.now in
+    let z = c.args.book.sound in
     let s = c.account-s.result in
     let to = s.first + s.count in
     let m : c.base-start.result + 16 * l.k ≡ base (accounts b) + 16 * l.k = omega (arith, c.base-start.ensures, c.accounts.ensures.0) in

@@ -1,14 +1,23 @@
-use native.Mathlib.Omega.{arith}
-use Rattle.report.proofs.Listing.{line_counted, all_counted}
+use Rattle.std.proofs.Common.{rules, arith}
+use Rattle.std.specs.List.{range_with_len}
+use Rattle.std.proofs.lemmas.Iterator.{YieldsList-from_range, YieldsList-from_map}
+use Rattle.std.proofs.lemmas.Iterator.Consumers.{sum_by_from_yields_List, fits_by_from_yields_list}
+use Rattle.bookformat.specs.Book.{accounts}
+use Rattle.report.proofs.Listing.{line_size, all_sizes, sizes_short}
 use Rattle.report.proofs.lines_length.Goals as goal
 
-pub loop-i-preserved : goal.loop-i-preserved
-loop-i-preserved c =
-    let l = c.loop-i in
-    let n = c.account_length-sum in
-    line_counted _ l.sum l.i l.invariant n.result (omega arith) n.ensures.0 n.ensures.1
+pub sum-requires-clause-fits : goal.sum-requires-clause-fits
+sum-requires-clause-fits c =
+    let b = c.args.book.bytes.now in
+    let n = accounts b in
+    fits_by_from_yields_list (line_size b) (range_with_len 0 n) c.map.result 18446744073709551616
+    (YieldsList-from_map _ (line_size b) (YieldsList-from_range 0 n n (cc) (omega arith)) c.map.ensures.closure (λ x r q k. search rules))
+    (omega (arith, sizes_short b, c.accounts.ensures))
 
 pub returns : goal.returns
 returns c =
-    let l = c.loop-i in
-    (all_counted _ l.sum l.i l.invariant (omega arith), omega (arith, l.invariant))
+    let b = c.args.book.bytes.now in
+    let n = accounts b in
+    let e = sum_by_from_yields_List (line_size b) (range_with_len 0 n) c.map.result c.sum.result c.sum.ensures.ran
+    (YieldsList-from_map _ (line_size b) (YieldsList-from_range 0 n n (cc) (omega arith)) c.map.ensures.closure (λ x r q k. search rules)) in
+    (omega (arith, e, all_sizes b), omega (arith, e, sizes_short b))

@@ -6,7 +6,7 @@ use Rattle.report.proofs.put_lines.Goals as goal
 pub put_account-at-requires : goal.put_account-at-requires
 put_account-at-requires c =
     let l = c.loop-i in
-    (search rules, line_room _ _ l.out _ l.at l.i l.invariant (omega arith) (search rules))
+    line_room _ _ l.out _ l.at l.i l.invariant (omega arith) (search rules)
 
 pub loop-i-preserved : goal.loop-i-preserved
 loop-i-preserved c =
