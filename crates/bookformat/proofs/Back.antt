@@ -73,7 +73,7 @@ lent_list_lem l =
 
 -- ---- a list that was read is fit to be written
 
-kinds_shift : (n i k : ℕ) (ks : List ℕ) → kinds_fine n (suc i) (k ∷ ks) ≡ kinds_fine n i ks
+pub kinds_shift : (n i k : ℕ) (ks : List ℕ) → kinds_fine n (suc i) (k ∷ ks) ≡ kinds_fine n i ks
 kinds_shift zero i k ks = refl
 kinds_shift (suc n) i k ks =
     let q : suc i + 1 ≡ suc (i + 1) = omega arith in

@@ -57,38 +57,40 @@ const SCHEDULES: [Schedule; CLASSES] = [
 // What stands past the last line.
 const NO_LINE: Line = Line { used: 0, price: 0 };
 
-// Where block i begins: the first at 0, each other one at the limit of the one before it.
-fn start(row: [Block; BLOCKS], i: usize) -> u64
-    requires { i < 3 }
-    ensures { result ≡ start_of row i }
-{
-    if i == 0 { 0 } else { row[i - 1].0 }
-}
-
-// The line of block i: what of the usage lies in it, at its price.
-fn line(row: [Block; BLOCKS], usage: u64, i: usize) -> Line
-    requires { i < 3 }
-    ensures { result ≡ get_or (lines_from 0 row usage) i no_line }
-{
-    let Block(limit, price) = row[i];
-    Line {
-        used: usage.min(limit).saturating_sub(start(row, i)),
-        price,
+impl Schedule {
+    // Where block i begins: the first at 0, each other one at the limit of the one before it.
+    fn start(self, i: usize) -> u64
+        requires { i < 3 }
+        ensures { result ≡ start_of self.blocks i }
+    {
+        if i == 0 { 0 } else { self.blocks[i - 1].0 }
     }
-}
 
-// The energy sum of a usage by a row of blocks, in hundredths of a cent: line after line, its kilowatt-hours at its price.
-#[tactic(auto, using(crate::proofs::Rows::lines_length, crate::proofs::Rows::length_of, std::proofs::lemmas::Grind::common_steps))]
-fn energy(row: [Block; BLOCKS], usage: u64) -> u64
-    requires { energy_by row usage ≤ largest }
-    ensures { result ≡ energy_by row usage }
-{
-    let mut sum: u64 = 0;
-    for i in 0..BLOCKS {
-        let l = line(row, usage, i);
-        sum += l.price * l.used;
+    // The line of block i: what of the usage lies in it, at its price.
+    fn line(self, usage: u64, i: usize) -> Line
+        requires { i < 3 }
+        ensures { result ≡ get_or (lines_from 0 self.blocks usage) i no_line }
+    {
+        let Block(limit, price) = self.blocks[i];
+        Line {
+            used: usage.min(limit).saturating_sub(self.start(i)),
+            price,
+        }
     }
-    sum
+
+    // The energy sum of a usage, in hundredths of a cent: line after line, its kilowatt-hours at its price.
+    #[tactic(auto, using(crate::proofs::Rows::lines_length, crate::proofs::Rows::length_of, std::proofs::lemmas::Grind::common_steps))]
+    fn energy(self, usage: u64) -> u64
+        requires { energy_by self.blocks usage ≤ largest }
+        ensures { result ≡ energy_by self.blocks usage }
+    {
+        let mut sum: u64 = 0;
+        for i in 0..BLOCKS {
+            let l = self.line(usage, i);
+            sum += l.price * l.used;
+        }
+        sum
+    }
 }
 
 // A class and a usage that a bill is worked out for.
@@ -126,7 +128,7 @@ impl Metered {
         ensures { result ≡ cents_of self.class self.usage }
     {
         let s = self.schedule();
-        s.basic_charge + (energy(s.blocks, self.usage) + 50) / 100
+        s.basic_charge + (s.energy(self.usage) + 50) / 100
     }
 }
 
@@ -142,7 +144,7 @@ pub fn bill_line(class: u8, usage: u64, i: usize) -> Line
     ensures { result ≡ get_or (bill_lines class usage) i no_line }
 {
     match Metered::of(class, usage) {
-        Ok(m) if i < BLOCKS => line(m.schedule().blocks, usage, i),
+        Ok(m) if i < BLOCKS => m.schedule().line(usage, i),
         _ => NO_LINE,
     }
 }
