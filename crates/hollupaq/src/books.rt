@@ -13,7 +13,8 @@ use bookwrite::LentList;
 use little::get;
 use rules::refusals::number_of;
 
-// The number at byte p of the header, where the book is not refused.
+// The number at byte p of the header, where the book is not refused. A match, and no map: what a closure asks of the book that
+// passed would want more proof than the two arms.
 fn header_number(book: &[u8], p: usize) -> u64
     requires { p ≤ 4 }
     ensures { result ≡ told (book_refusal book.now) (num 4 p book.now) }

@@ -56,7 +56,8 @@ enum Failed {
 
 // The whole work, from any input to any output: what is written is the text for all that the input had, and no other
 // byte. One byte more is read than a book may have, so that a longer file is seen. Where a read fails, the text is that
-// for what came before it, and the failure is told afterwards.
+// for what came before it, and the failure is told afterwards. It leaves by let .. else: behind map_err(..)? what the
+// read promised is not at hand.
 fn answer<R: Read, W: Write>(input: &mut R, output: &mut W) -> Result<(), Failed>
     ensures whole { OnOk result (IfSome (R.remaining input.old)
         (λ xs. Appends (W.contents output.old) (W.contents output.new) (input_text xs))) }
