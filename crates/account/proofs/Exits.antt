@@ -7,7 +7,8 @@ use native.Mathlib.Omega.{arith}
 use lib.Dec.{ltb, eqb}
 use lib.ListN.{length}
 use borrow.Author.Tests.{ltb-false, eqb-true, eqb-false, eq-eqb, ne_eqb}
-use Rattle.basics.proofs.Cases.{on, links, and_left, and_right}
+use Rattle.std.proofs.lemmas.Bool.{and_parts}
+use Rattle.basics.proofs.Cases.{on, links}
 use Rattle.rules.specs.declared.Event.{Event}
 use Rattle.rules.specs.declared.View.{View}
 use Rattle.std.proofs.Common.{Ok, Err}
@@ -40,9 +41,9 @@ use Rattle.account.proofs.Words.{account_whole}
 pub state_fit : (s : State) → state_ok s ≡ true → StateFit s
 unfolding state_ok
 state_fit s e =
-    let b = and_right (service_ok s) (file_ok s && money_ok s) e in
-    let d = and_left (deposit_ok s.deposit) (medical_ok s.medical) (and_left (file_ok s) (money_ok s) b) in
-    let r = links (arrangement_ok s.arrangement) (receipts_ok s.receipts ∷ ledger_ok s.ledger ∷ []) (and_right (file_ok s) (money_ok s) b) in
+    let b = (and_parts (service_ok s) (file_ok s && money_ok s) e).1 in
+    let d = (and_parts (deposit_ok s.deposit) (medical_ok s.medical) (and_parts (file_ok s) (money_ok s) b).0).0 in
+    let r = links (arrangement_ok s.arrangement) (receipts_ok s.receipts ∷ ledger_ok s.ledger ∷ []) (and_parts (file_ok s) (money_ok s) b).1 in
     record {
       deposit_fit = deposit_fit s.deposit d;
       arrangement_fit = arrangement_fit s.arrangement r.0;
@@ -61,11 +62,11 @@ module _ (m : List ℕ) where
 
   pub passed_size : passes m ≡ true → length m ≡ account_size
   unfolding passes
-  passed_size e = eqb-true (length m) account_size (and_left (eqb (length m) account_size) (state_ok (state_on m)) e)
+  passed_size e = eqb-true (length m) account_size (and_parts (eqb (length m) account_size) (state_ok (state_on m)) e).0
 
   pub passed_fit : passes m ≡ true → Fit m
   unfolding passes
-  passed_fit e = record { words_are = passed_size e; fit = state_fit (state_on m) (and_right (eqb (length m) account_size) (state_ok (state_on m)) e) }
+  passed_fit e = record { words_are = passed_size e; fit = state_fit (state_on m) (and_parts (eqb (length m) account_size) (state_ok (state_on m)) e).1 }
 
 -- ---- what is read for an event is what its kind looks at
 pub seen_is : (s : State) (e : Event) → view_from (service_by s.collection.service) (debts_for s e) (money_for s e) ≡ seen_of (view s e) e
@@ -73,14 +74,6 @@ unfolding view
 seen_is s e = on (looks_at_debt e) (λ q. rw q) (λ q. rw q)
 
 -- ---- the rows of the day and the fields, and those after them
--- none of them refuses: the day and the fields are in range
-pub well_formed : (last : ℕ) (e : Event) (n : ℕ) → day_rows last e.day (cond (not (in_range e)) 3 n) ≡ 0 → WellFormed e × (n ≡ 0)
-well_formed last e n h =
-    on (ltb final_day e.day) (λ q. absurd (omega (arith, rw q at h)))
-    (λ q. on (ltb e.day last) (λ r. absurd (omega (arith, rw (q, r) at h)))
-    (λ r. on (in_range e) (λ w. (record { in_time = ltb-false final_day e.day q; fields_fit = w }, rw (q, r, w) at h))
-    (λ w. absurd (omega (arith, rw (q, r, w) at h)))))
-
 -- the whole number, where rows 1 to 3 refuse, and where they do not
 rows_first : (last t n : ℕ) (b : Bool) → (day_rows last t (cond (not b) 3 0) ≡ 0 → ⊥) → day_rows last t (cond (not b) 3 n) ≡ day_rows last t (cond (not b) 3 0)
 rows_first last t n b h =
@@ -109,29 +102,24 @@ module _ (s : State) (e : Event) where
       let g = answered_err first r done y h in
       rw (rows_first s.last e.day (refusal_by (view s e) e) (in_range e) (eqb-false first 0 g.0)) g.1
 
-  -- they do not, and the rows after them, asked by what the event's kind looks at, refuse, or do not either
-  pub refusal_rest : (v : View) → Ok done ≡ answered first done → refusal_by v e ≡ refusal_by (view s e) e → refusal_by v e ≡ refusal_at s e
+  -- they do not: the rows after them refuse, or do not either
+  pub refusal_rest : first ≡ 0 → refusal_by (view s e) e ≡ refusal_at s e
   unfolding refusal_at
-  refusal_rest v h l = rw (rows_rest s.last e.day (refusal_by (view s e) e) (in_range e) (answered_ok first done done h).0) l
+  refusal_rest h = sym (rows_rest s.last e.day (refusal_by (view s e) e) (in_range e) h)
 
-  pub refused_rest : {A : Type 0} (v : View) (r : Refusal) (y : A) → Ok done ≡ answered first done → refusal_by v e ≡ refusal_by (view s e) e
-      → Err r ≡ answered (refusal_by v e) done → Err r ≡ answered (refusal_at s e) y
-  refused_rest v r y h l q = rw (← refusal_rest v h l) (answered_err (refusal_by v e) r done y q).1
+  pub refused_rest : {A B : Type 0} (r : Refusal) (x : A) (y : B) → first ≡ 0 → Err r ≡ answered (refusal_by (view s e) e) x → Err r ≡ answered (refusal_at s e) y
+  refused_rest r x y h q = rw (← refusal_rest h) (answered_err (refusal_by (view s e) e) r x y q).1
 
-  pub passed_rest : (v : View) → Ok done ≡ answered first done → refusal_by v e ≡ refusal_by (view s e) e → Ok done ≡ answered (refusal_by v e) done → refusal_at s e ≡ 0
-  passed_rest v h l q = sym (refusal_rest v h l) ∙ (answered_ok (refusal_by v e) done done q).0
+  pub passed_rest : {A : Type 0} (x y : A) → first ≡ 0 → Ok x ≡ answered (refusal_by (view s e) e) y → refusal_at s e ≡ 0
+  passed_rest x y h q = sym (refusal_rest h) ∙ (answered_ok (refusal_by (view s e) e) x y q).0
 
 -- ---- what is known of an event that no row refuses
-pub free_of : (m : List ℕ) (e : Event) → Fit m → refusal_at (state_on m) e ≡ 0 → Free m e
-unfolding refusal_at
-free_of m e f z =
-    let w = well_formed (state_on m).last e (refusal_by (view (state_on m) e) e) z in
-    record { fit = f; well = w.0; free = w.1 }
+pub free_of : {A : Type 0} (m : List ℕ) (e : Event) (x y : A) → Fit m → Ok x ≡ answered (refusal_by (view (state_on m) e) e) y → Free m e
+free_of m e x y f q = record { fit = f; free = (answered_ok (refusal_by (view (state_on m) e) e) x y q).0 }
 
-pub passing_of : (m : List ℕ) (e : Event) → Fit m → refusal_at (state_on m) e ≡ 0 → Passing m e (offer_of (state_on m) e).view (offer_of (state_on m) e).charge
-passing_of m e f z =
-    let w = free_of m e f z in
-    record { fit = f; well = w.well; looked = refl; free = refusal_seen (view (state_on m) e) e ∙ w.free; charged = refl }
+pub passing_of : (m : List ℕ) (e : Event) → Fit m → refusal_by (view (state_on m) e) e ≡ 0
+    → Passing m e (offer_of (state_on m) e).view (offer_of (state_on m) e).charge
+passing_of m e f z = record { fit = f; looked = refl; free = refusal_seen (view (state_on m) e) e ∙ z; charged = refl }
 
 -- ---- the exits of a judging
 module _ (m : List ℕ) (e : Event) where

@@ -83,15 +83,6 @@ item_row s e n o w =
     ap (λ r. cond (is_closed (service_by s.collection.service)) 4 r) (of_item (view s e) e n w (either e o))
     ∙ after_row4 (view s e) e (either e o)
 
--- row 4 alone: it refuses, or lets pass
-pub row_err : (b : Bool) (n : ℕ) (r : Refusal) → Err r ≡ cond {A = Result (Unit {0}) Refusal} b (Err Closed) (Ok tt) → Err r ≡ answered (cond b 4 n) (tt {0})
-row_err true n r h = h
-row_err false n r h = absurd (cc)
-
-pub row_ok : (b : Bool) (u : Unit {0}) → Ok u ≡ cond {A = Result (Unit {0}) Refusal} b (Err Closed) (Ok tt) → b ≡ false
-row_ok true u h = absurd (cc)
-row_ok false u h = refl
-
 -- ---- the amount of the item
 pub bill_amount : (s : State) (e : Event) → e.kind ≡ bill → min (e.amount + late_charge (s.ledger.charged - credits_by s.ledger)) largest
     ≡ min (charge_of (view s e) e) largest

@@ -6,7 +6,6 @@ use Rattle.rules.specs.declared.View.{View}
 use Rattle.rules.specs.declared.Service.{Service}
 use Rattle.rules.specs.Kinds.{bill, returned_payment, fee, deposit_moved}
 use Rattle.rules.specs.History.{is}
-use Rattle.rules.specs.Range.{WellFormed}
 use Rattle.rules.specs.Table.{charge_of, refusal_by}
 use Rattle.table.specs.Seen.{looks_at_debt, seen_of}
 use Rattle.collection.specs.Collection.{live_by, in_days_by, called_by}
@@ -82,7 +81,6 @@ pub record Became (m : List ℕ) (s : State) : Type 0 where
 -- e passes: v is what its kind looks at, no row refuses, and charge is what it charges
 pub record Passing (m : List ℕ) (e : Event) (v : View) (charge : ℕ) : Type 0 where
   pub fit : Fit m
-  pub well : WellFormed e
   pub looked : v ≡ seen_of (view (state_on m) e) e
   pub free : refusal_by v e ≡ 0
   pub charged : charge ≡ min (charge_of v e) largest
@@ -104,5 +102,4 @@ only_item e = is bill e || is fee e
 -- no row refuses e
 pub record Free (m : List ℕ) (e : Event) : Type 0 where
   pub fit : Fit m
-  pub well : WellFormed e
   pub free : refusal_by (view (state_on m) e) e ≡ 0

@@ -2,6 +2,7 @@
 // other way to post is a door to it.
 #![tactic(auto)]
 
+pub mod known;
 mod look;
 pub mod many;
 mod rows;
@@ -14,6 +15,7 @@ ghost use Rattle.std.specs.Prelude.{◌≡◌, length};
 ghost use Rattle.account.specs.State.{account_size, fresh_words, Fit, passes as is_account};
 ghost use Rattle.account.specs.Post.{Judges, Leaves, posted};
 
+use known::Known;
 use rules::kinds::Kind;
 use rules::refusals::Refusal;
 use rules::{Answer, Event};
@@ -39,7 +41,7 @@ pub struct Posted {
 pub fn passes(m: &[u64]) -> bool
     ensures { result ≡ is_account m.now }
 {
-    m.len() == WORDS && look::ok(m)
+    m.as_array().is_some_and(|w| look::ok(w))
 }
 
 // Memory with the words of an account becomes a fresh one: no events, service on, all sums 0.
@@ -56,8 +58,10 @@ fn judge_any(m: &mut [u64], e: Event) -> Answer
     requires { Fit m.old }
     ensures { Judges m.old e result m.new }
 {
-    let offer = rows::ask(m, e)?;
-    Ok(step::apply(m, e, offer.view, offer.charge))
+    let known = Known { words: m };
+    let posted = range::check_event(known.last(), e)?;
+    let offer = rows::ask(known, e)?;
+    Ok(step::apply(m, posted, offer.view, offer.charge))
 }
 
 // One event judged by the table, in memory that is known to be an account. What is refused changes nothing.

@@ -1,12 +1,13 @@
 // What is read of an account when an event is offered: what the table looks at, and the test.
-ghost use Rattle.std.specs.Prelude.{◌≡◌, ◌&&◌, length};
+ghost use Rattle.std.specs.Prelude.{◌≡◌, ◌&&◌};
 ghost use Rattle.rules.specs.Kinds.{deposit_moved};
 ghost use Rattle.rules.specs.History.{is};
 ghost use Rattle.deposit.specs.Deposit.{earned_by};
 ghost use Rattle.table.specs.Seen.{seen_of};
-ghost use Rattle.account.specs.State.{account_size, state_on, Fit, file_ok, money_ok, state_ok, view};
+ghost use Rattle.account.specs.State.{state_on, file_ok, money_ok, state_ok, view};
 ghost use Rattle.account.specs.Looks.{debts_on, debts_for, money_for, view_from};
 
+use crate::known::Known;
 use crate::spans::{
     ARRANGEMENT, COLLECTION, DEPOSIT, LAST, LAYOUT, LAYOUT_NUMBER, LEDGER, MEDICAL, RECEIPTS, WORDS,
 };
@@ -52,17 +53,14 @@ pub struct Money {
     pub earned: bool,
 }
 
-fn debts_on(m: &[u64], t: u64) -> Debts
-    requires { Fit m.now }
-    ensures { result ≡ debts_on (state_on m.now) t }
+fn debts_on(account: Known, t: u64) -> Debts
+    ensures { result ≡ debts_on (state_on account.entry.words.now) t }
 {
-    let c = Collection::load(&m[COLLECTION..DEPOSIT]);
-    let p = Medical::load(&m[MEDICAL..ARRANGEMENT]);
-    let a = Arrangement::load(&m[ARRANGEMENT..RECEIPTS]);
-    let arrears = ledger::arrears(&m[LEDGER..WORDS], t);
+    let c = account.collection();
+    let p = account.medical();
     Debts {
-        arrears,
-        in_force: a.in_force(t),
+        arrears: ledger::arrears(account.ledger(), t),
+        in_force: account.arrangement().in_force(t),
         notice_live: c.notice_live(t),
         notice_in_days: c.notice_in_days(t),
         called: c.called(t),
@@ -72,12 +70,11 @@ fn debts_on(m: &[u64], t: u64) -> Debts
 }
 
 // Nothing is looked through for an event whose kind does not look at the debt.
-fn debts_for(m: &[u64], e: Event) -> Debts
-    requires { Fit m.now }
-    ensures { result ≡ debts_for (state_on m.now) e }
+fn debts_for(account: Known, e: Event) -> Debts
+    ensures { result ≡ debts_for (state_on account.entry.words.now) e }
 {
     if table::looks_at_debt(e) {
-        debts_on(m, u64::from(e.day))
+        debts_on(account, u64::from(e.day))
     } else {
         NO_DEBTS
     }
@@ -89,16 +86,13 @@ fn earned_for(d: Deposit, e: Event) -> bool
     e.is(Kind::DepositMoved) && d.earned(u64::from(e.day))
 }
 
-fn money_for(m: &[u64], e: Event) -> Money
-    requires { length m.now ≡ account_size }
-    ensures { result ≡ money_for (state_on m.now) e }
+fn money_for(account: Known, e: Event) -> Money
+    ensures { result ≡ money_for (state_on account.entry.words.now) e }
 {
-    let sums = ledger::sums_of(&m[LEDGER..WORDS]);
-    let payment = receipts::named(&m[RECEIPTS..LEDGER], e);
-    let d = Deposit::load(&m[DEPOSIT..MEDICAL]);
+    let d = account.deposit();
     Money {
-        sums,
-        payment,
+        sums: ledger::sums_of(account.ledger()),
+        payment: receipts::named(account.receipts(), e),
         held: d.held,
         required: d.required,
         earned: earned_for(d, e),
@@ -130,19 +124,18 @@ fn view_of(service: Service, d: Debts, n: Money) -> View
 }
 
 // What the table looks at when the event is offered, as far as the event's kind looks at it.
-pub fn seen(m: &[u64], e: Event) -> View
-    requires { Fit m.now }
-    ensures { result ≡ seen_of (view (state_on m.now) e) e }
+pub fn seen(account: Known, e: Event) -> View
+    ensures { result ≡ seen_of (view (state_on account.entry.words.now) e) e }
 {
-    let c = Collection::load(&m[COLLECTION..DEPOSIT]);
-    let d = debts_for(m, e);
-    let n = money_for(m, e);
+    let c = account.collection();
+    let d = debts_for(account, e);
+    let n = money_for(account, e);
     view_of(c.service(), d, n)
 }
 
 // ---- the test
-fn money_ok(m: &[u64]) -> bool
-    requires { length m.now ≡ account_size }
+// Of as many words as an account has: they lie in an array, whose length its type says.
+fn money_ok(m: &[u64; WORDS]) -> bool
     ensures { result ≡ money_ok (state_on m.now) }
 {
     let a = Arrangement::load(&m[ARRANGEMENT..RECEIPTS]);
@@ -151,8 +144,7 @@ fn money_ok(m: &[u64]) -> bool
     a.ok() & r & l
 }
 
-fn file_ok(m: &[u64]) -> bool
-    requires { length m.now ≡ account_size }
+fn file_ok(m: &[u64; WORDS]) -> bool
     ensures { result ≡ (file_ok (state_on m.now) && money_ok (state_on m.now)) }
 {
     let d = Deposit::load(&m[DEPOSIT..MEDICAL]);
@@ -163,8 +155,7 @@ fn file_ok(m: &[u64]) -> bool
 // The test that each account reached from a fresh one passes: it is of this layout, and each part passes its own. It goes part by
 // part, so that few numbers are held at a time.
 #[tactic(auto, unfolding(crate::specs::State::state_ok))]
-pub fn ok(m: &[u64]) -> bool
-    requires { length m.now ≡ account_size }
+pub fn ok(m: &[u64; WORDS]) -> bool
     ensures { result ≡ state_ok (state_on m.now) }
 {
     let layout = span::word(&m[LAYOUT..LAST]);

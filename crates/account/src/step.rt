@@ -1,38 +1,38 @@
 // An account after an event that is accepted: each part is lent its span and steps in place.
 ghost use Rattle.std.specs.Prelude.{◌≡◌, length};
-ghost use Rattle.rules.specs.Range.{WellFormed};
 ghost use Rattle.deposit.specs.Deposit.{DepositFit};
 ghost use Rattle.account.specs.State.{account_size, state_on, money_after, file_after, service_after};
 ghost use Rattle.account.specs.Looks.{Became, Passing, Applied};
 
 use crate::spans::{ARRANGEMENT, COLLECTION, DEPOSIT, LAST, LEDGER, MEDICAL, RECEIPTS, WORDS};
 use rules::kinds::Kind;
-use rules::{Event, View};
+use rules::{Event, InRange, View};
 
 // The money: ledger, receipts and arrangement.
-fn move_money(m: &mut [u64], e: Event, v: View, charge: u64)
-    requires { Passing m.old e v charge }
-    ensures { Became m.new (money_after (state_on m.old) e v) }
+fn move_money(m: &mut [u64], posted: InRange, v: View, charge: u64)
+    requires { Passing m.old posted.event v charge }
+    ensures { Became m.new (money_after (state_on m.old) posted.event v) }
 {
-    let adds = amounts::charges(e);
+    let e = posted.event;
+    let item = amounts::charges(e).then_some(charge);
     let credit = amounts::credit(v, e);
-    ledger::step(&mut m[LEDGER..WORDS], e, adds, charge, credit);
+    ledger::step(&mut m[LEDGER..WORDS], e, item, credit);
     receipts::step(&mut m[RECEIPTS..LEDGER], e);
-    arrangement::step(&mut m[ARRANGEMENT..RECEIPTS], e, v.arrears, v.payment);
+    arrangement::step(&mut m[ARRANGEMENT..RECEIPTS], posted, v.arrears, v.payment);
 }
 
 // What is kept on file: the deposit, certificates and approvals.
-fn keep_file(m: &mut [u64], e: Event)
-    requires { (length m.old ≡ account_size) × DepositFit (state_on m.old).deposit × WellFormed e }
-    ensures { Became m.new (file_after (state_on m.old) e) }
+fn keep_file(m: &mut [u64], posted: InRange)
+    requires { (length m.old ≡ account_size) × DepositFit (state_on m.old).deposit }
+    ensures { Became m.new (file_after (state_on m.old) posted.event) }
 {
-    deposit::step(&mut m[DEPOSIT..MEDICAL], e);
-    medical::step(&mut m[MEDICAL..ARRANGEMENT], e);
+    deposit::step(&mut m[DEPOSIT..MEDICAL], posted);
+    medical::step(&mut m[MEDICAL..ARRANGEMENT], posted);
 }
 
 // Service, notice and calls, and the day. The arrears after the event are worked out only where a notice could lapse by them.
 fn set_service(m: &mut [u64], e: Event)
-    requires { (length m.old ≡ account_size) × WellFormed e }
+    requires { length m.old ≡ account_size }
     ensures { Became m.new (service_after (state_on m.old) e) }
 {
     let t = u64::from(e.day);
@@ -43,12 +43,13 @@ fn set_service(m: &mut [u64], e: Event)
 }
 
 // The account after an event that passes; says the receipt of a payment, or 0.
-pub fn apply(m: &mut [u64], e: Event, v: View, charge: u64) -> u64
-    requires { Passing m.old e v charge }
-    ensures { Applied m.old e v m.new result }
+pub fn apply(m: &mut [u64], posted: InRange, v: View, charge: u64) -> u64
+    requires { Passing m.old posted.event v charge }
+    ensures { Applied m.old posted.event v m.new result }
 {
-    move_money(m, e, v, charge);
-    keep_file(m, e);
+    let e = posted.event;
+    move_money(m, posted, v, charge);
+    keep_file(m, posted);
     set_service(m, e);
     let n = receipts::count(&m[RECEIPTS..LEDGER]);
     if e.is(Kind::Payment) { n } else { 0 }

@@ -9,12 +9,11 @@ ghost use Rattle.account.specs.State.{account_size, state_on, Fit, view, money_a
 ghost use Rattle.account.specs.Post.{Judges};
 ghost use Rattle.account.specs.Looks.{Became, Applied, Free, only_item};
 
+use crate::known::Known;
 use crate::spans::{ARRANGEMENT, COLLECTION, DEPOSIT, LAST, LEDGER, RECEIPTS, WORDS};
-use collection::Collection;
 use rules::kinds::Kind;
 use rules::refusals::Refusal;
-use rules::{Answer, Event};
-use span::Part;
+use rules::{Answer, Event, InRange};
 
 // The day, and the notice, which can only lapse. The arrears are worked out only where there is one.
 fn pass_day(m: &mut [u64], e: Event)
@@ -32,30 +31,31 @@ fn pass_day(m: &mut [u64], e: Event)
 
 // ---- payments
 // 19: payments plus deposits moved would pass the limit.
-fn check_credit(m: &[u64], e: Event) -> Result<(), Refusal>
-    requires { (length m.now ≡ account_size) × (e.kind ≡ payment) }
-    ensures { result ≡ answered (refusal_by (view (state_on m.now) e) e) tt }
+fn check_credit(account: Known, e: Event) -> Result<(), Refusal>
+    requires { e.kind ≡ payment }
+    ensures { result ≡ answered (refusal_by (view (state_on account.entry.words.now) e) e) tt }
 {
-    table::credit_rows(ledger::sums_of(&m[LEDGER..WORDS]).credited, e.amount)
+    table::credit_rows(ledger::sums_of(account.ledger()).credited, e.amount)
 }
 
 // The money of a payment.
-fn take_payment(m: &mut [u64], e: Event)
-    requires { Free m.old e × (e.kind ≡ payment) }
-    ensures { Became m.new (money_after (state_on m.old) e (view (state_on m.old) e)) }
+fn take_payment(m: &mut [u64], posted: InRange)
+    requires { let e = posted.event in Free m.old e × (e.kind ≡ payment) }
+    ensures { let e = posted.event in Became m.new (money_after (state_on m.old) e (view (state_on m.old) e)) }
 {
-    ledger::step(&mut m[LEDGER..WORDS], e, false, 0, e.amount);
+    let e = posted.event;
+    ledger::step(&mut m[LEDGER..WORDS], e, None, e.amount);
     receipts::step(&mut m[RECEIPTS..LEDGER], e);
-    arrangement::step(&mut m[ARRANGEMENT..RECEIPTS], e, 0, 0);
+    arrangement::step(&mut m[ARRANGEMENT..RECEIPTS], posted, 0, 0);
 }
 
 // A payment that passes; says its receipt.
-fn pay(m: &mut [u64], e: Event) -> u64
-    requires { Free m.old e × (e.kind ≡ payment) }
-    ensures { Applied m.old e (view (state_on m.old) e) m.new result }
+fn pay(m: &mut [u64], posted: InRange) -> u64
+    requires { let e = posted.event in Free m.old e × (e.kind ≡ payment) }
+    ensures { let e = posted.event in Applied m.old e (view (state_on m.old) e) m.new result }
 {
-    take_payment(m, e);
-    pass_day(m, e);
+    take_payment(m, posted);
+    pass_day(m, posted.event);
     receipts::count(&m[RECEIPTS..LEDGER])
 }
 
@@ -63,19 +63,21 @@ pub fn payment(m: &mut [u64], e: Event) -> Answer
     requires { Fit m.old × (e.kind ≡ payment) }
     ensures { Judges m.old e result m.new }
 {
-    range::check_event(span::word(&m[LAST..COLLECTION]), e)?;
-    check_credit(m, e)?;
-    Ok(pay(m, e))
+    let account = Known { words: m };
+    let posted = range::check_event(account.last(), e)?;
+    check_credit(account, e)?;
+    Ok(pay(m, posted))
 }
 
 // ---- bills and fees
-// The amount of the item: of a bill with the late charge, of a fee by its number.
-fn amount_of(m: &[u64], e: Event) -> u64
-    requires { (length m.now ≡ account_size) × (only_item e ≡ true) }
-    ensures { result ≡ min (charge_of (view (state_on m.now) e) e) largest }
+// The amount of the item: of a bill with the late charge, of a fee by its number. `amounts::charge` says the same of a View, which is
+// not made here. One function for both was tried: then no crate calls `amounts::late_charge`, which callers are promised.
+fn amount_of(account: Known, e: Event) -> u64
+    requires { only_item e ≡ true }
+    ensures { result ≡ min (charge_of (view (state_on account.entry.words.now) e) e) largest }
 {
     if e.is(Kind::Bill) {
-        let s = ledger::sums_of(&m[LEDGER..WORDS]);
+        let s = ledger::sums_of(account.ledger());
         let late = amounts::late_charge(s.charged.saturating_sub(s.credits));
         e.amount.saturating_add(late)
     } else {
@@ -83,15 +85,16 @@ fn amount_of(m: &[u64], e: Event) -> u64
     }
 }
 
-// 4: closed; 18: the places of open items are taken; 19: the charges would pass the limit.
-fn check_item(m: &[u64], e: Event, charge: u64) -> Result<(), Refusal>
-    requires { (length m.now ≡ account_size) × (only_item e ≡ true) × (charge ≡ min (charge_of (view (state_on m.now) e) e) largest) }
-    ensures { result ≡ answered (refusal_by (view (state_on m.now) e) e) tt }
+// 4: closed; 18: the places of open items are taken; 19: the charges would pass the limit. Where none refuses, the amount of the item.
+fn check_item(account: Known, e: Event) -> Result<u64, Refusal>
+    requires { only_item e ≡ true }
+    ensures { let v = view (state_on account.entry.words.now) e in result ≡ answered (refusal_by v e) (min (charge_of v e) largest) }
 {
-    let c = Collection::load(&m[COLLECTION..DEPOSIT]);
-    Refusal::Closed.when(c.service().is_closed())?;
-    let s = ledger::sums_of(&m[LEDGER..WORDS]);
-    table::item_rows(s.open_count, s.charged, charge)
+    Refusal::Closed.when(account.collection().service().is_closed())?;
+    let charge = amount_of(account, e);
+    let s = ledger::sums_of(account.ledger());
+    table::item_rows(s.open_count, s.charged, charge)?;
+    Ok(charge)
 }
 
 // A bill or a fee that passes.
@@ -99,7 +102,7 @@ fn charge_item(m: &mut [u64], e: Event, charge: u64)
     requires { Free m.old e × (only_item e ≡ true) × (charge ≡ min (charge_of (view (state_on m.old) e) e) largest) }
     ensures { Applied m.old e (view (state_on m.old) e) m.new 0 }
 {
-    ledger::step(&mut m[LEDGER..WORDS], e, true, charge, 0);
+    ledger::step(&mut m[LEDGER..WORDS], e, Some(charge), 0);
     pass_day(m, e);
 }
 
@@ -107,9 +110,9 @@ pub fn item(m: &mut [u64], e: Event) -> Answer
     requires { Fit m.old × (only_item e ≡ true) }
     ensures { Judges m.old e result m.new }
 {
-    range::check_event(span::word(&m[LAST..COLLECTION]), e)?;
-    let charge = amount_of(m, e);
-    check_item(m, e, charge)?;
+    let account = Known { words: m };
+    range::check_event(account.last(), e)?;
+    let charge = check_item(account, e)?;
     charge_item(m, e, charge);
     Ok(0)
 }

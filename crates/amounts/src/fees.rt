@@ -10,7 +10,7 @@ use rules::kinds::Kind;
 // hours, reconnection after hours.
 const FEES: [u64; 7] = [7_500, 15_000, 3_000, 1_500, 2_500, 2_000, 7_500];
 
-// The fee of a number, 0 where there is none of that number.
+// The fee of a number, 0 where there is none of that number: it is added, and what is no fee adds nothing.
 pub fn fee(n: u64) -> u64
     ensures { result ≡ fee_of n }
 {
@@ -20,7 +20,7 @@ pub fn fee(n: u64) -> u64
     }
 }
 
-// The number of the fee that an event brings, 0 for none.
+// The number of the fee that an event brings, 0 for none: the numbers begin at 1, and `fee` answers every one.
 pub fn fee_number(e: Event) -> u64
     ensures { result ≡ fee_number e }
 {

@@ -6,7 +6,6 @@ mod fees;
 
 ghost use Rattle.std.specs.Prelude.{◌≡◌, min};
 ghost use Rattle.basics.specs.Machine.{largest};
-ghost use Rattle.rules.specs.Deposit.{moves as moves_deposit};
 ghost use Rattle.rules.specs.Money.{charges as makes_item};
 ghost use Rattle.rules.specs.Table.{charge_of, credit_of};
 
@@ -23,13 +22,6 @@ pub fn charges(e: Event) -> bool
         Kind::try_from(e.kind),
         Ok(Kind::Bill | Kind::ReturnedPayment | Kind::Fee | Kind::FinalNotice | Kind::Reconnection)
     )
-}
-
-// Whether the event moves the deposit.
-pub fn moves(e: Event) -> bool
-    ensures { result ≡ moves_deposit e }
-{
-    e.is(Kind::DepositMoved) | e.is(Kind::Closing)
 }
 
 // The amount of the item that the event makes, 0 where it makes none; the largest number where the amount is more.
@@ -53,7 +45,7 @@ pub fn credit(v: View, e: Event) -> u64
 {
     if e.is(Kind::Payment) {
         e.amount
-    } else if moves(e) {
+    } else if e.moves_deposit() {
         v.held
     } else {
         0

@@ -4,11 +4,10 @@
 ghost use Rattle.std.specs.Prelude.{◌≡◌, cond, ◌≤◌, length};
 ghost use Rattle.rules.specs.Kinds.{returned_payment};
 ghost use Rattle.rules.specs.History.{is};
-ghost use Rattle.rules.specs.Range.{WellFormed};
 ghost use Rattle.rules.specs.Limits.{limit};
 ghost use Rattle.arrangement.specs.Arrangement.{arrangement_size, arrangement_on, arrangement_after, in_force_by, arrangement_ok, ArrangementFit};
 
-use rules::Event;
+use rules::InRange;
 use rules::kinds::Kind;
 use rules::limits::{FINAL_DAY, LIMIT, MOST_PARTS, PART_DAYS};
 use span::Part;
@@ -37,12 +36,12 @@ pub struct Arrangement {
 impl Arrangement {
     // What it becomes when the event is accepted. `arrears` are those before the event, on its day; `payment` is that of
     // the receipt which a returned payment names.
-    pub fn after(self, e: Event, arrears: u64, payment: u64) -> Arrangement
+    pub fn after(self, posted: InRange, arrears: u64, payment: u64) -> Arrangement
         requires arrangement_fit { ArrangementFit self }
-        requires well_formed { WellFormed e }
-        requires payment_bound { cond (is returned_payment e) payment 0 ≤ limit }
-        ensures { result ≡ arrangement_after self e arrears payment }
+        requires payment_bound { cond (is returned_payment posted.event) payment 0 ≤ limit }
+        ensures { result ≡ arrangement_after self posted.event arrears payment }
     {
+        let e = posted.event;
         let anew = e.is(Kind::Arrangement);
         let paid = self.paid + if e.is(Kind::Payment) { e.amount } else { 0 };
         let returned = self.returned
@@ -120,15 +119,16 @@ impl Part for Arrangement {
 
 // An accepted event, in place, with the arrears and the payment as `after` takes them. Of a payment, which is common, one word
 // changes; kinds that do not concern the part touch nothing.
-pub fn step(w: &mut [u64], e: Event, arrears: u64, payment: u64)
-    requires { (length w.old ≡ arrangement_size) × ArrangementFit (arrangement_on w.old) × WellFormed e × (cond (is returned_payment e) payment 0 ≤ limit) }
-    ensures { arrangement_on w.new ≡ arrangement_after (arrangement_on w.old) e arrears payment }
+pub fn step(w: &mut [u64], posted: InRange, arrears: u64, payment: u64)
+    requires { (length w.old ≡ arrangement_size) × ArrangementFit (arrangement_on w.old) × (cond (is returned_payment posted.event) payment 0 ≤ limit) }
+    ensures { arrangement_on w.new ≡ arrangement_after (arrangement_on w.old) posted.event arrears payment }
 {
+    let e = posted.event;
     if e.is(Kind::Payment) {
         w[PAID] += e.amount;
         return;
     }
     if e.is(Kind::ReturnedPayment) | e.is(Kind::Arrangement) {
-        span::change(w, |a: Arrangement| a.after(e, arrears, payment));
+        span::change(w, |a: Arrangement| a.after(posted, arrears, payment));
     }
 }

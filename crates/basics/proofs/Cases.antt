@@ -5,6 +5,7 @@ use mathlib.Core.Bool.{Bool, true, false, cond, ◌&&◌, ◌||◌, true≢false
 use mathlib.Core.List.{List, [], ◌∷◌}
 use native.Mathlib.Omega.{arith}
 use lib.Dec.{leb, ltb, eqb}
+use Rattle.std.proofs.lemmas.Bool.{and_parts}
 use borrow.Author.Tests.{eqb-true, eqb-false, ltb-true, ltb-false, leb-true, leb-false}
 
 -- a Bool, by cases, with the equation
@@ -21,38 +22,7 @@ on_lt a b f g = on (ltb a b) (λ e. f e (ltb-true a b e)) (λ e. g e (ltb-false 
 pub on_le : {P : Type 0} (a b : ℕ) → (leb a b ≡ true → a ≤ b → P) → (leb a b ≡ false → b < a → P) → P
 on_le a b f g = on (leb a b) (λ e. f e (leb-true a b e)) (λ e. g e (leb-false a b e))
 
--- ---- a compound test and its parts
-pub and_left : (a b : Bool) → (a && b) ≡ true → a ≡ true
-and_left true b e = refl
-and_left false b e = e
-
-pub and_right : (a b : Bool) → (a && b) ≡ true → b ≡ true
-and_right true b e = e
-and_right false b e = absurd (false≢true e)
-
-pub or_left : (a b : Bool) → (a || b) ≡ false → a ≡ false
-or_left true b e = e
-or_left false b e = refl
-
-pub or_right : (a b : Bool) → (a || b) ≡ false → b ≡ false
-or_right true b e = absurd (true≢false e)
-or_right false b e = e
-
-pub and_both : (a b : Bool) → a ≡ true → b ≡ true → (a && b) ≡ true
-and_both true b p q = q
-and_both false b p q = p
-
--- two tests that imply one another are one
-pub both_ways : (a b : Bool) → (a ≡ true → b ≡ true) → (b ≡ true → a ≡ true) → a ≡ b
-both_ways true b f g = sym (f refl)
-both_ways false true f g = g refl
-both_ways false false f g = refl
-
--- a test that cannot hold
-pub never : (a : Bool) → (a ≡ true → ⊥) → a ≡ false
-never true f = absurd (f refl)
-never false f = refl
-
+-- ---- a compound test
 -- what is implied already adds nothing
 pub absorb : (a b : Bool) → (b ≡ true → a ≡ true) → (a || b) ≡ a
 absorb true b f = refl
@@ -80,4 +50,6 @@ Each (a ∷ l) = (a ≡ true) × Each l
 
 pub links : (a : Bool) (l : List Bool) → chain a l ≡ true → (a ≡ true) × Each l
 links a [] e = (e, tt)
-links a (b ∷ l) e = let r = links (a && b) l e in (and_left a b r.0, (and_right a b r.0, r.1))
+links a (b ∷ l) e =
+    let r = links (a && b) l e in
+    let p = and_parts a b r.0 in (p.0, (p.1, r.1))

@@ -1,4 +1,3 @@
 pub mod Cases
 pub mod Differences
 pub mod Lists
-pub mod Signed

@@ -6,7 +6,7 @@ use mathlib.Core.List.{List, [], ◌∷◌, ◌++◌}
 use native.Mathlib.Nat.{not-suc-le-zero, le_of_suc-le-suc}
 use lib.ListN.{length, get_or, set}
 use Rattle.basics.specs.Lists.{every}
-use Rattle.basics.proofs.Cases.{and_left, and_right}
+use Rattle.std.proofs.lemmas.Bool.{and_parts}
 
 module _ {A : Type 0} where
   -- the default, put anywhere, is read there, in the list or past it
@@ -15,21 +15,8 @@ module _ {A : Type 0} where
   at_set (x ∷ xs) zero d = refl
   at_set (x ∷ xs) (suc i) d = at_set xs i d
 
-  -- ---- what every element has, as types
-  abbrev pub All : (A → Type 0) → List A → Type 0
-  All P [] = Unit {0}
-  All P (x ∷ xs) = P x × All P xs
-
-  pub all_append : (P : A → Type 0) (xs ys : List A) → All P xs → All P ys → All P (xs ++ ys)
-  all_append P [] ys p q = q
-  all_append P (x ∷ xs) ys p q = (p.0, all_append P xs ys p.1 q)
-
-  pub all_more : (P Q : A → Type 0) → ((x : A) → P x → Q x) → (xs : List A) → All P xs → All Q xs
-  all_more P Q f [] p = tt
-  all_more P Q f (x ∷ xs) p = (f x p.0, all_more P Q f xs p.1)
-
   -- ---- what every element has, as a test
   pub every_in : (f : A → Bool) (l : List A) (i : ℕ) (d : A) → i < length l → every f l ≡ true → f (get_or l i d) ≡ true
   every_in f [] i d h e = absurd (not-suc-le-zero h)
-  every_in f (x ∷ xs) zero d h e = and_left (f x) (every f xs) e
-  every_in f (x ∷ xs) (suc i) d h e = every_in f xs i d (le_of_suc-le-suc h) (and_right (f x) (every f xs) e)
+  every_in f (x ∷ xs) zero d h e = (and_parts (f x) (every f xs) e).0
+  every_in f (x ∷ xs) (suc i) d h e = every_in f xs i d (le_of_suc-le-suc h) (and_parts (f x) (every f xs) e).1

@@ -9,7 +9,7 @@ use lib.Dec.{eqb}
 use lib.ListN.{length, take, drop, get_or, length-map}
 use lib.Seq.{take-append_seam}
 use Rattle.rules.specs.declared.Event.{Event}
-use Rattle.basics.proofs.Cases.{and_left, and_right, and_both}
+use Rattle.std.proofs.lemmas.Bool.{and_from, and_parts}
 use Rattle.little.specs.Little.{Bytes}
 use Rattle.bookformat.specs.Book.{
   AccountList,
@@ -84,9 +84,9 @@ kinds_back zero p b e = refl
 kinds_back (suc n) p b e =
     let k = get_or b p 0 in
     let ks = kinds_of (events_at n (p + 16) b) in
-    let f = and_left (record_fine p b) (records_fine n (p + 16) b) e in
-    let g = and_right (record_fine p b) (records_fine n (p + 16) b) e in
-    and_both (kind_fine k) (kinds_fine n 1 (k ∷ ks)) (and_left (kind_fine k) (eqb (get_or b (p + 2) 0) 0 && eqb (get_or b (p + 3) 0) 0) f)
+    let f = (and_parts (record_fine p b) (records_fine n (p + 16) b) e).0 in
+    let g = (and_parts (record_fine p b) (records_fine n (p + 16) b) e).1 in
+    and_from (kind_fine k) (kinds_fine n 1 (k ∷ ks)) (and_parts (kind_fine k) (eqb (get_or b (p + 2) 0) 0 && eqb (get_or b (p + 3) 0) 0) f).0
     (kinds_shift n 0 k ks ∙ kinds_back n (p + 16) b g)
 
 written_again : (b : List ℕ) (room : ℕ) → book_refusal b ≡ 0 → length b ≤ room

@@ -11,7 +11,8 @@ use lib.Dec.{eqb}
 use lib.ListN.{length, take, drop, get_or}
 use lib.Seq.{drop-drop, drop-cons}
 use Rattle.rules.specs.declared.Event.{Event}
-use Rattle.basics.proofs.Cases.{on_lt, and_left, and_right}
+use Rattle.std.proofs.lemmas.Bool.{and_parts}
+use Rattle.basics.proofs.Cases.{on_lt}
 use Rattle.little.specs.Little.{num}
 use Rattle.bookformat.specs.declared.Span.{Span}
 use Rattle.bookformat.specs.Book.{accounts, records, base, table_fine, book_refusal, event_at, events_at, counts_at, split, flat, decode}
@@ -35,11 +36,11 @@ offset_at : (start r n p sum i : ℕ) (b : List ℕ) → table_fine start r n p 
 offset_at start r zero p sum i b e h = absurd (not-suc-le-zero h)
 offset_at start r (suc n) p sum zero b e h =
     ap (λ q. num 4 q b) (omega arith)
-    ∙ eqb-true _ _ (and_left (eqb (num 4 p b) (start + 16 * sum)) (table_fine start r n (p + 8) (sum + num 4 (p + 4) b) b) e) ∙ omega arith
+    ∙ eqb-true _ _ (and_parts (eqb (num 4 p b) (start + 16 * sum)) (table_fine start r n (p + 8) (sum + num 4 (p + 4) b) b) e).0 ∙ omega arith
 offset_at start r (suc n) p sum (suc i) b e h =
     ap (λ q. num 4 q b) (omega arith)
     ∙ offset_at start r n (p + 8) (sum + num 4 (p + 4) b) i b
-    (and_right (eqb (num 4 p b) (start + 16 * sum)) (table_fine start r n (p + 8) (sum + num 4 (p + 4) b) b) e) (le_of_suc-le-suc h)
+    (and_parts (eqb (num 4 p b) (start + 16 * sum)) (table_fine start r n (p + 8) (sum + num 4 (p + 4) b) b) e).1 (le_of_suc-le-suc h)
     ∙ omega arith
 
 count_at : (n p i : ℕ) (b : List ℕ) → i < n → get_or (counts_at n p b) i 0 ≡ num 4 (p + 8 * i + 4) b

@@ -14,7 +14,7 @@ use Rattle.rules.specs.declared.refusals.Refusal.{Refusal}
 use Rattle.rules.specs.Refusals.{refusal_number}
 use Rattle.rules.proofs.Numbered.{answered_ok}
 use Rattle.std.specs.Prelude.{Ok, Err}
-use Rattle.basics.proofs.Cases.{and_left, and_right}
+use Rattle.std.proofs.lemmas.Bool.{and_parts}
 use Rattle.little.specs.Little.{top, Under}
 use Rattle.little.proofs.Stores.{sets_front}
 use Rattle.bookformat.specs.Book.{longest, kind_fine, book_refusal, accounts, records, base, events_at, counts_at, decode, book_of, encode}
@@ -104,9 +104,9 @@ storable_lent : (n i : ℕ) (ks os ds ms : List ℕ) → kinds_fine n i ks ≡ t
 storable_lent zero i ks os ds ms e o d m = tt
 storable_lent (suc n) i ks os ds ms e o d m =
     let k = get_or ks i 0 in
-    let f = and_left (kind_fine k) (kinds_fine n (i + 1) ks) e in (
-      (leb-true 1 k (and_left (leb 1 k) (leb k closing) f), leb-true k closing (and_right (leb 1 k) (leb k closing) f), o i, d i, m i),
-      storable_lent n (i + 1) ks os ds ms (and_right (kind_fine k) (kinds_fine n (i + 1) ks) e) o d m,
+    let f = (and_parts (kind_fine k) (kinds_fine n (i + 1) ks) e).0 in (
+      (leb-true 1 k (and_parts (leb 1 k) (leb k closing) f).0, leb-true k closing (and_parts (leb 1 k) (leb k closing) f).1, o i, d i, m i),
+      storable_lent n (i + 1) ks os ds ms (and_parts (kind_fine k) (kinds_fine n (i + 1) ks) e).1 o d m,
     )
 
 pub written_back : (cs ks os ds ms : List ℕ) (room : ℕ) → Under 256 os → Under (top 4) ds → Under (top 8) ms → write_refusal cs ks os ds ms room ≡ 0

@@ -4,7 +4,8 @@ use mathlib.Core.Bool.{Bool, true, false, cond, ◌&&◌}
 use mathlib.Core.List.{List, [], ◌∷◌}
 use Prim.Native.Nat.{ℕ, suc, ◌<◌}
 use native.Mathlib.Omega.{arith}
-use Rattle.basics.proofs.Cases.{Each, and_left, and_right}
+use Rattle.std.proofs.lemmas.Bool.{and_parts}
+use Rattle.basics.proofs.Cases.{Each}
 use Rattle.bookformat.specs.Book.{all}
 
 pub and_on : (a b : Bool) → a ≡ true → (a && b) ≡ b
@@ -13,7 +14,7 @@ and_on a b e = ap (λ x. x && b) e
 pub each : (l : List Bool) → all l ≡ true → Each l
 each [] e = tt
 each (a ∷ []) e = (e, tt)
-each (a ∷ b ∷ l) e = (and_left a (all (b ∷ l)) e, each (b ∷ l) (and_right a (all (b ∷ l)) e))
+each (a ∷ b ∷ l) e = ((and_parts a (all (b ∷ l)) e).0, each (b ∷ l) (and_parts a (all (b ∷ l)) e).1)
 
 -- a refusal of 0 says that the test held and that no later one refused
 pub header_passed : (b : Bool) (x k : ℕ) → cond b x (suc k) ≡ 0 → (b ≡ true) × (x ≡ 0)

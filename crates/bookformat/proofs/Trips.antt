@@ -10,7 +10,7 @@ use lib.Dec.{eqb}
 use lib.ListN.{length, take, drop, get_or, length-append, length-take, length-drop, length-map, take-append-drop}
 use lib.Seq.{take-add, get_or_at, drop-drop, drop-cons, take-length, take-append_seam, drop-append_seam, get_or-append-add}
 use Rattle.rules.specs.declared.Event.{Event}
-use Rattle.basics.proofs.Cases.{and_left, and_right}
+use Rattle.std.proofs.lemmas.Bool.{and_parts}
 use Rattle.little.specs.Little.{le, num, part, top, Bytes}
 use Rattle.little.proofs.Numbers.{le_num, num_at, length_le}
 use Rattle.bookformat.specs.Book.{
@@ -60,9 +60,9 @@ table_back : (start r n p sum : ℕ) (b : List ℕ) → Bytes b → p + 8 * n �
 table_back start r zero p sum b t h e = refl
 table_back start r (suc n) p sum b t h e =
     let c = num 4 (p + 4) b in
-    let q : num 4 p b ≡ start + 16 * sum = eqb-true _ _ (and_left (eqb (num 4 p b) (start + 16 * sum)) (table_fine start r n (p + 8) (sum + c) b) e) in
+    let q : num 4 p b ≡ start + 16 * sum = eqb-true _ _ (and_parts (eqb (num 4 p b) (start + 16 * sum)) (table_fine start r n (p + 8) (sum + c) b) e).0 in
     let i = table_back start r n (p + 8) (sum + c) b t (omega arith)
-    (and_right (eqb (num 4 p b) (start + 16 * sum)) (table_fine start r n (p + 8) (sum + c) b) e) in
+    (and_parts (eqb (num 4 p b) (start + 16 * sum)) (table_fine start r n (p + 8) (sum + c) b) e).1 in
     let k : 8 * suc n ≡ 4 + (4 + 8 * n) = omega arith in
     let s : start + 16 * sum + 16 * c ≡ start + 16 * (sum + c) = omega arith in
     let m : p + 4 + 4 ≡ p + 8 = omega arith in
@@ -72,9 +72,9 @@ record_back : (p : ℕ) (b : List ℕ) → Bytes b → p + 16 ≤ length b → r
 record_back p b t h e =
     let z2 = eqb (get_or b (p + 2) 0) 0 in
     let z3 = eqb (get_or b (p + 3) 0) 0 in
-    let s = and_right (kind_fine (get_or b p 0)) (z2 && z3) e in
-    let z : get_or b (p + 2) 0 ≡ 0 = eqb-true _ _ (and_left z2 z3 s) in
-    let w : get_or b (p + 3) 0 ≡ 0 = eqb-true _ _ (and_right z2 z3 s) in
+    let s = (and_parts (kind_fine (get_or b p 0)) (z2 && z3) e).1 in
+    let z : get_or b (p + 2) 0 ≡ 0 = eqb-true _ _ (and_parts z2 z3 s).0 in
+    let w : get_or b (p + 3) 0 ≡ 0 = eqb-true _ _ (and_parts z2 z3 s).1 in
     let m : p + 4 + 4 ≡ p + 8 = omega arith in
     rw (
       part_cons 15 p (p + 1) b (omega arith) refl,
@@ -94,14 +94,14 @@ body_back zero p b t h e = refl
 body_back (suc n) p b t h e =
     let k : 16 * suc n ≡ 16 + 16 * n = omega arith in
     rw (k, part_add 16 (16 * n) p b)
-    (ap₂ (λ x y. x ++ y) (record_back p b t (omega arith) (and_left (record_fine p b) (records_fine n (p + 16) b) e))
-    (body_back n (p + 16) b t (omega arith) (and_right (record_fine p b) (records_fine n (p + 16) b) e)))
+    (ap₂ (λ x y. x ++ y) (record_back p b t (omega arith) (and_parts (record_fine p b) (records_fine n (p + 16) b) e).0)
+    (body_back n (p + 16) b t (omega arith) (and_parts (record_fine p b) (records_fine n (p + 16) b) e).1))
 
 pub table_total : (start r n p sum : ℕ) (b : List ℕ) → table_fine start r n p sum b ≡ true → sum + counts_total (counts_at n p b) ≡ r
 table_total start r zero p sum b e = omega (arith, eqb-true sum r e)
 table_total start r (suc n) p sum b e =
     let c = num 4 (p + 4) b in
-    omega (arith, table_total start r n (p + 8) (sum + c) b (and_right (eqb (num 4 p b) (start + 16 * sum)) (table_fine start r n (p + 8) (sum + c) b) e))
+    omega (arith, table_total start r n (p + 8) (sum + c) b (and_parts (eqb (num 4 p b) (start + 16 * sum)) (table_fine start r n (p + 8) (sum + c) b) e).1)
 
 pub length_counts : (n p : ℕ) (b : List ℕ) → length (counts_at n p b) ≡ n
 length_counts zero p b = refl

@@ -14,7 +14,8 @@ use lib.Dec.{leb}
 use lib.IntN.{ℤ}
 use lib.ListN.{length, drop, set, length-set, length-drop, length-map}
 use lib.Seq.{sets, length-take-le}
-use Rattle.basics.proofs.Cases.{on, and_left, and_right}
+use Rattle.std.proofs.lemmas.Bool.{and_parts}
+use Rattle.basics.proofs.Cases.{on}
 use Rattle.rules.specs.declared.Event.{Event}
 use Rattle.rules.specs.History.{History}
 use Rattle.rules.specs.Money.{owed}
@@ -170,8 +171,8 @@ module _ (b : List ℕ) (i : ℕ) (ns : List ℕ) (os : List ℤ) (z : history_r
       let r = or_zero (book_refusal b) (cond (leb n (length ns) && leb n (length os)) 0 22) z in
       let t : (leb n (length ns) && leb n (length os)) ≡ true =
       on (leb n (length ns) && leb n (length os)) (λ q. q) (λ q. absurd (omega (arith, rw q at r.1))) in (
-        leb-true n (length ns) (and_left (leb n (length ns)) (leb n (length os)) t),
-        leb-true n (length os) (and_right (leb n (length ns)) (leb n (length os)) t),
+        leb-true n (length ns) (and_parts (leb n (length ns)) (leb n (length os)) t).0,
+        leb-true n (length os) (and_parts (leb n (length ns)) (leb n (length os)) t).1,
       )
 
   pub history_told : (ns2 : List ℕ) (os2 : List ℤ) → ns2 ≡ sets ns 0 (numbers_of (book_account b i)) → os2 ≡ sets os 0 (owed_from [] (book_account b i))

@@ -6,7 +6,8 @@ use mathlib.Core.List.{[], ◌∷◌}
 use native.Mathlib.Omega.{arith}
 use lib.Dec.{leb, eqb}
 use borrow.Author.Tests.{eqb-true}
-use Rattle.basics.proofs.Cases.{on, never, and_left, and_right, and_both}
+use Rattle.std.proofs.lemmas.Bool.{and_from, and_parts, false_from_ne_true}
+use Rattle.basics.proofs.Cases.{on}
 use Rattle.rules.specs.Kinds.{final_notice, disconnection}
 use Rattle.rules.specs.History.{History, is, within, last_posted}
 use Rattle.rules.specs.Money.{arrears}
@@ -22,9 +23,9 @@ use Rattle.collection.specs.Collection.{collection_of}
 gone : (f : ℕ → ℕ) (n : Notice) (b : Bool) (d t : ℕ) → (eqb n.live 1 && within n.day (n.day + notice_to) d) ≡ false
     → b ≡ (eqb n.live 1 && within (f n.day) (n.day + notice_to) t) → n.day ≤ d → d ≤ t → b ≡ false
 gone f n b d t off e p l =
-    e ∙ never _ (λ on.
-    let w = within_true (f n.day) (n.day + notice_to) t (and_right (eqb n.live 1) _ on) in
-    true≢false (sym (and_both (eqb n.live 1) _ (and_left (eqb n.live 1) _ on) (within_in n.day (n.day + notice_to) d p (omega arith))) ∙ off))
+    e ∙ false_from_ne_true _ (λ on.
+    let w = within_true (f n.day) (n.day + notice_to) t (and_parts (eqb n.live 1) _ on).1 in
+    true≢false (sym (and_from (eqb n.live 1) _ (and_parts (eqb n.live 1) _ on).0 (within_in n.day (n.day + notice_to) d p (omega arith))) ∙ off))
 
 -- no notice is given while one is live
 abbrev pub Alone : History → Type 0

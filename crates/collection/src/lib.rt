@@ -23,12 +23,12 @@ const LAST_CALL: usize = 3;
 
 const EARLIER_CALL: usize = 4;
 
-// The word of each service.
-const ON: u64 = 0;
+// The word of each service is its number. A word of memory may be any other, so it stays one: `ok` tests it.
+const ON: u64 = Service::On as u64;
 
-const OFF: u64 = 1;
+const OFF: u64 = Service::Off as u64;
 
-const CLOSED: u64 = 2;
+const CLOSED: u64 = Service::Closed as u64;
 
 // From the day after a call to the last day on which it counts.
 const CALLED_FOR: u64 = CALL_DAYS - 1;

@@ -3,11 +3,10 @@
 #![tactic(auto)]
 
 ghost use Rattle.std.specs.Prelude.{◌≡◌, length};
-ghost use Rattle.rules.specs.Range.{WellFormed};
 ghost use Rattle.deposit.specs.Deposit.{is_full, deposit_after, concerns, deposit_ok, DepositFit, earned_by, deposit_size, deposit_on};
 ghost use Rattle.deposit.specs.Conduct.{conduct_after, in_year_by, quiet_by, conduct_ok};
 
-use rules::Event;
+use rules::{Event, InRange};
 use rules::kinds::Kind;
 use rules::limits::{FINAL_DAY, MOST_DEPOSIT, YEAR};
 use span::Part;
@@ -101,12 +100,12 @@ impl Deposit {
     }
 
     // What it becomes when the event is accepted.
-    fn after(self, e: Event) -> Deposit
-        requires deposit_fit { DepositFit self }
-        requires well_formed { WellFormed e }
-        ensures { result ≡ deposit_after self e }
+    fn after(self, posted: InRange) -> Deposit
+        requires { DepositFit self }
+        ensures { result ≡ deposit_after self posted.event }
     {
-        let moves = e.is(Kind::DepositMoved) | e.is(Kind::Closing);
+        let e = posted.event;
+        let moves = e.moves_deposit();
         let paid = e.is(Kind::DepositPaid);
         let held = self.held + if paid { e.amount } else { 0 };
         let asked = if e.is(Kind::DepositAsked) {
@@ -189,13 +188,12 @@ fn concerns(e: Event) -> bool
 }
 
 // The event is accepted.
-pub fn step(w: &mut [u64], e: Event)
+pub fn step(w: &mut [u64], posted: InRange)
     requires w_len { length w.old ≡ deposit_size }
     requires deposit_fit { DepositFit (deposit_on w.old) }
-    requires well_formed { WellFormed e }
-    ensures { deposit_on w.new ≡ deposit_after (deposit_on w.old) e }
+    ensures { deposit_on w.new ≡ deposit_after (deposit_on w.old) posted.event }
 {
-    if concerns(e) {
-        span::change(w, |d: Deposit| d.after(e));
+    if concerns(posted.event) {
+        span::change(w, |d: Deposit| d.after(posted));
     }
 }

@@ -11,7 +11,8 @@ use lib.ListN.{length, length-append}
 use borrow.Author.Tests.{ltb-true, lt-ltb, leb-false, le-leb}
 use Rattle.basics.specs.Machine.{largest}
 use Rattle.basics.proofs.Cases.{on}
-use Rattle.basics.proofs.Lists.{All, all_append, all_more}
+use Rattle.std.specs.List.{All}
+use Rattle.std.proofs.lemmas.List.Elements.{All-nil, All-cons, All-append, All-weaker}
 use Rattle.rules.specs.declared.Event.{Event}
 use Rattle.rules.specs.declared.Item.{Item}
 use Rattle.rules.specs.Kinds.{payment, payout}
@@ -46,14 +47,16 @@ items_more : (h : History) (e : Event) → items (e ∷ h) ≡ items h ++ new h 
 items_more h e = on (charges e) (λ q. rw q) (λ q. rw q (sym (append-nil (items h))))
 
 new_sound : (h : History) (e : Event) → in_range e ≡ true → All (Sound (charged (e ∷ h))) (new h e)
-new_sound h e r = on (charges e) (λ q. rw q ((omega arith, charge_above h e r q), tt)) (λ q. rw q tt)
+new_sound h e r =
+    let S = Sound (charged (e ∷ h)) in
+    on (charges e) (λ q. rw q (All-cons S _ [] (omega arith, charge_above h e r q) (All-nil S))) (λ q. rw q (All-nil S))
 
 sound : (h : History) → Lawful h → All (Sound (charged h)) (items h)
-sound [] w = tt
+sound [] w = All-nil (Sound (charged []))
 sound (e ∷ h) w =
     rw (items_more h e)
-    (all_append (Sound (charged (e ∷ h))) (items h) (new h e)
-    (all_more (Sound (charged h)) (Sound (charged (e ∷ h))) (λ x p. (omega arith, p.1)) (items h) (sound h w.1))
+    (All-append (Sound (charged (e ∷ h))) (items h) (new h e)
+    (All-weaker (Sound (charged h)) (Sound (charged (e ∷ h))) (λ x p. (omega arith, p.1)) (items h) (sound h w.1))
     (new_sound h e (passed h e w.0).fields_fit))
 
 -- ---- an item that is closed never opens again: credits fall only by a payout, which leaves nothing open

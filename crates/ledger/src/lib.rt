@@ -4,7 +4,7 @@
 // What is read is defined for any words, so that the test need not look through the places.
 #![tactic(auto)]
 
-ghost use Rattle.std.specs.Prelude.{◌≡◌, cond, ◌+◌, ◌-◌, ◌≤◌, ◌<◌, min, length, get_or};
+ghost use Rattle.std.specs.Prelude.{◌≡◌, cond, ◌+◌, ◌-◌, ◌≤◌, ◌<◌, min, is_some, unwrap_or, length, get_or};
 ghost use Rattle.std.proofs.Math.IntN.{sub_ℕ};
 ghost use Rattle.rules.specs.Money.{unpaid as unpaid_of, due as due_of};
 ghost use Rattle.rules.specs.Limits.{limit};
@@ -200,18 +200,18 @@ fn pay_out(w: &mut [u64; WORDS], amount: u64)
     w[PAID_OUT] = paid;
 }
 
-// The step of an accepted event, which charges so much where it adds an item, and credits so much. It does one thing at most, and an
-// event that does none touches no word.
+// The step of an accepted event: the item that it adds, so much, if it adds one, and what it credits. It does one thing at most, and
+// an event that does none touches no word.
 #[tactic(auto, using(crate::proofs::ByKind::on_charge, crate::proofs::ByKind::on_credit, crate::proofs::ByKind::on_payout, crate::proofs::ByKind::on_other))]
-pub fn step(w: &mut [u64], e: Event, adds: bool, charge: u64, credit: u64)
+pub fn step(w: &mut [u64], e: Event, item: Option<u64>, credit: u64)
     requires w_len { length w.old ≡ ledger_size }
     requires ledger_fit { LedgerFit (ledger_on w.old) }
-    requires ledger_room { LedgerRoom (ledger_on w.old) e adds charge credit }
-    ensures { ledger_on w.new ≡ ledger_after (ledger_on w.old) e adds charge credit }
+    requires ledger_room { LedgerRoom (ledger_on w.old) e (is_some item) (unwrap_or item 0) credit }
+    ensures { ledger_on w.new ≡ ledger_after (ledger_on w.old) e (is_some item) (unwrap_or item 0) credit }
 {
     let w: &mut [u64; WORDS] = w.as_mut_array().unwrap();
-    if adds {
-        charge_item(w, u64::from(e.day), charge);
+    if let Some(amount) = item {
+        charge_item(w, u64::from(e.day), amount);
     } else if e.is(Kind::Payout) {
         pay_out(w, e.amount);
     } else if 0 < credit {
@@ -240,7 +240,7 @@ pub fn owed(w: &[u64]) -> i64
     ensures { result ≡ sub_ℕ (ledger_on w.now).charged (credits_by (ledger_on w.now)) }
 {
     let w = whole(w);
-    basics::difference(w[CHARGED], credits(w))
+    w[CHARGED].checked_signed_diff(credits(w)).unwrap()
 }
 
 // The arrears on day t.

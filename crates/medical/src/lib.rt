@@ -3,10 +3,9 @@
 
 ghost use Rattle.std.specs.Prelude.{◌≡◌, true, cond, ◌+◌, ◌≤◌, length};
 ghost use Rattle.rules.specs.Limits.{certificate_days};
-ghost use Rattle.rules.specs.Range.{WellFormed};
 ghost use Rattle.medical.specs.Medical.{medical_size, medical_on, medical_after, certified_by, approved_by, medical_ok};
 
-use rules::Event;
+use rules::{Event, InRange};
 use rules::kinds::Kind;
 use rules::limits::{APPROVAL_DAYS, CERTIFICATE_DAYS, FINAL_DAY};
 use span::Part;
@@ -42,10 +41,10 @@ fn end_of(wanted: bool, e: Event) -> u64
 
 impl Medical {
     // What it becomes when the event is accepted.
-    pub fn after(self, e: Event) -> Medical
-        requires { WellFormed e }
-        ensures { result ≡ medical_after self e }
+    pub fn after(self, posted: InRange) -> Medical
+        ensures { result ≡ medical_after self posted.event }
     {
+        let e = posted.event;
         let certificate = e.is(Kind::Certificate);
         let certified_to = self.certified_to.max(end_of(certificate, e));
         let approved_to = self.approved_to.max(end_of(e.is(Kind::Approval), e));
@@ -98,11 +97,12 @@ impl Part for Medical {
 }
 
 // An accepted event, in place. Kinds that do not concern the part touch nothing.
-pub fn step(w: &mut [u64], e: Event)
-    requires { (length w.old ≡ medical_size) × WellFormed e }
-    ensures { medical_on w.new ≡ medical_after (medical_on w.old) e }
+pub fn step(w: &mut [u64], posted: InRange)
+    requires { length w.old ≡ medical_size }
+    ensures { medical_on w.new ≡ medical_after (medical_on w.old) posted.event }
 {
+    let e = posted.event;
     if e.is(Kind::Certificate) | e.is(Kind::Approval) {
-        span::change(w, |m: Medical| m.after(e));
+        span::change(w, |m: Medical| m.after(posted));
     }
 }

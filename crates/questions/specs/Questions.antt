@@ -6,7 +6,8 @@ use Rattle.rules.specs.declared.Service.{Service}
 use Rattle.rules.specs.declared.Service.TheVariants.{Closed}
 use Rattle.rules.specs.declared.refusals.Refusal.{Refusal}
 use Rattle.rules.specs.declared.refusals.Refusal.TheVariants.{NoAccount}
-use Rattle.rules.specs.Answer.{answered, number_of, is_told, value_or}
+use Rattle.std.specs.Result.{result_unwrap_or, is_ok}
+use Rattle.rules.specs.Answer.{answered, number_of}
 use Rattle.rules.specs.Accepted.{day_rows}
 use Rattle.collection.specs.Collection.{service_by, live_by}
 use Rattle.medical.specs.Medical.{certified_by}
@@ -68,9 +69,9 @@ certified_on m t = told_on m t (λ s. certified_by s.medical t)
 -- ---- document 01's number and value of such an answer
 -- something is told, or a number refuses, which is 0 where the memory is no account; the value, and `none` where it is refused
 pub record Told {A : Type 0} (none : A) (r : Result A Refusal) (n : ℕ) (x : A) : Type 0 where
-  pub told : is_told r ≡ eqb n 0
+  pub told : is_ok r ≡ eqb n 0
   pub number : number_of r ≡ n
-  pub value : value_or none r ≡ cond (eqb n 0) x none
+  pub value : result_unwrap_or r none ≡ cond (eqb n 0) x none
 
 -- the answer tells c, or is refused with n where n is not 0
 abbrev pub Tells : Result ℕ Refusal → ℕ → ℕ → Type 0

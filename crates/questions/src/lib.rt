@@ -2,14 +2,13 @@
 #![tactic(auto, using(crate::proofs::Asked::asked_is, crate::proofs::Asked::told_is), unfolding(crate::specs::Questions::asked_of))]
 
 mod days;
-mod known;
 
 ghost use Rattle.std.specs.Prelude.{◌≡◌, get_or};
 ghost use Rattle.ledger.specs.Ledger.{no_item};
 ghost use Rattle.questions.specs.Questions.{owed_in, held_in, required_in, service_in, open_in, count_in};
 
 pub use days::{arrears, certified, in_force, notice_live};
-use known::Known;
+use account::known::Known;
 use ledger::OpenItem;
 use rules::Service;
 

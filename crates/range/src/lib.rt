@@ -1,7 +1,8 @@
 // Rows 1 to 3, which concern every event: its day, and its fields; unknown kinds too. A field that a kind does not name is 0.
 #![tactic(auto)]
 
-ghost use Rattle.std.specs.Prelude.{◌≡◌, cond, not, get_or};
+ghost use Rattle.std.specs.Prelude.{◌≡◌, cond, not, get_or, Err, MatchResult};
+ghost use Rattle.rules.specs.Kinds.{kind_number};
 ghost use Rattle.rules.specs.Range.{amount_to, option_in, unknown, fields, in_range};
 ghost use Rattle.rules.specs.Answer.{answered};
 ghost use Rattle.rules.specs.Accepted.{day_rows};
@@ -12,7 +13,7 @@ use rules::limits::{
     MOST_RECEIPT,
 };
 use rules::refusals::Refusal;
-use rules::{Event, Fields};
+use rules::{Event, Fields, InRange};
 
 // The amount lies in 1 to n, and the option is not named.
 fn amount_to(n: u64) -> Fields
@@ -38,27 +39,24 @@ fn option_in(m: u8, n: u8) -> Fields
     }
 }
 
-// The fields of the kind that has the number. No option is in range where none has it.
-fn fields_of(kind: u8) -> Fields
-    ensures { result ≡ get_or fields kind unknown }
+// The fields of a kind.
+fn fields_of(kind: Kind) -> Fields
+    ensures { result ≡ get_or fields (kind_number kind) unknown }
 {
-    match Kind::try_from(kind) {
-        Ok(Kind::Bill | Kind::Payment | Kind::DepositPaid | Kind::Payout) => amount_to(MOST_AMOUNT),
-        Ok(Kind::ReturnedPayment) => amount_to(MOST_RECEIPT),
-        Ok(Kind::Fee) => option_in(1, 3),
-        Ok(Kind::DepositAsked) => amount_to(MOST_DEPOSIT),
-        Ok(Kind::Certificate) => amount_to(CERTIFICATE_DAYS),
-        Ok(Kind::Approval) => amount_to(APPROVAL_DAYS),
-        Ok(Kind::Arrangement) => option_in(LEAST_PARTS, MOST_PARTS),
-        Ok(Kind::Reconnection) => option_in(0, 1),
-        Ok(
-            Kind::DepositMoved
-            | Kind::FinalNotice
-            | Kind::Call
-            | Kind::Disconnection
-            | Kind::Closing,
-        ) => option_in(0, 0),
-        Err(_) => option_in(1, 0),
+    match kind {
+        Kind::Bill | Kind::Payment | Kind::DepositPaid | Kind::Payout => amount_to(MOST_AMOUNT),
+        Kind::ReturnedPayment => amount_to(MOST_RECEIPT),
+        Kind::Fee => option_in(1, 3),
+        Kind::DepositAsked => amount_to(MOST_DEPOSIT),
+        Kind::Certificate => amount_to(CERTIFICATE_DAYS),
+        Kind::Approval => amount_to(APPROVAL_DAYS),
+        Kind::Arrangement => option_in(LEAST_PARTS, MOST_PARTS),
+        Kind::Reconnection => option_in(0, 1),
+        Kind::DepositMoved
+        | Kind::FinalNotice
+        | Kind::Call
+        | Kind::Disconnection
+        | Kind::Closing => option_in(0, 0),
     }
 }
 
@@ -67,7 +65,10 @@ fn fields_of(kind: u8) -> Fields
 fn in_range(e: Event) -> bool
     ensures { result ≡ in_range e }
 {
-    let f = fields_of(e.kind);
+    let Ok(kind) = Kind::try_from(e.kind) else {
+        return false;
+    };
+    let f = fields_of(kind);
     (f.option_from..=f.option_to).contains(&e.option)
         && (f.amount_from..=f.amount_to).contains(&e.amount)
 }
@@ -80,10 +81,13 @@ pub fn check_day(last: u64, t: u64) -> Result<(), Refusal>
     Refusal::BeforeLastEvent.when(t < last)
 }
 
-// 1 to 3: the day, then the fields.
-pub fn check_event(last: u64, e: Event) -> Result<(), Refusal>
-    ensures { result ≡ answered (day_rows last e.day (cond (not (in_range e)) 3 0)) tt }
+// 1 to 3: the day, then the fields. What they let pass is in range.
+pub fn check_event(last: u64, e: Event) -> Result<InRange, Refusal>
+    ensures { MatchResult result
+        (λ posted. (posted.event ≡ e) × (day_rows last e.day (cond (not (in_range e)) 3 0) ≡ 0))
+        (λ refusal. Err refusal ≡ answered (day_rows last e.day (cond (not (in_range e)) 3 0)) (tt {0})) }
 {
     check_day(last, u64::from(e.day))?;
-    Refusal::OutOfRange.when(!in_range(e))
+    Refusal::OutOfRange.when(!in_range(e))?;
+    Ok(InRange { event: e })
 }

@@ -8,7 +8,8 @@ use lib.Dec.{ltb, eqb}
 use lib.ListN.{length, get_or, set, length-set}
 use lib.Seq.{get_or-set_same, get_or-set_other}
 use borrow.Author.Tests.{le-leb, ltb-true}
-use Rattle.basics.proofs.Cases.{on, on_eq, and_left, and_right}
+use Rattle.std.proofs.lemmas.Bool.{and_parts}
+use Rattle.basics.proofs.Cases.{on, on_eq}
 use Rattle.basics.proofs.Lists.{at_set}
 use Rattle.rules.specs.Limits.{known_receipts}
 use Rattle.rules.specs.Kinds.{payment, returned_payment}
@@ -79,8 +80,8 @@ payment_is h w r =
     rw (count_is h)
     (readings (within 1 n r && ltb (n - r) known_receipts) (returned h r) _ _
     (λ t.
-    let v = within_true 1 n r (and_left (within 1 n r) (ltb (n - r) known_receipts) t) in
-    places h w r v.0 v.1 (omega (arith, ltb-true (n - r) known_receipts (and_right (within 1 n r) (ltb (n - r) known_receipts) t)))))
+    let v = within_true 1 n r (and_parts (within 1 n r) (ltb (n - r) known_receipts) t).0 in
+    places h w r v.0 v.1 (omega (arith, ltb-true (n - r) known_receipts (and_parts (within 1 n r) (ltb (n - r) known_receipts) t).1))))
 
 -- ---- the law
 pub record ReceiptsLaw (h : History) : Type 0 where

@@ -14,8 +14,6 @@ use Rattle.report.specs.Report.{refused_text, text_by, text_of, input_text, most
 use Rattle.std.proofs.Common.{Result, Ok, Err}
 use Rattle.rules.specs.declared.refusals.Refusal.{Refusal}
 use Rattle.rules.specs.declared.refusals.Refusal.TheVariants.{NoAccount, PastLastDay, BeforeLastEvent, OutOfRange, Closed, WrongService, NoPayment, WrongSum, NotEarned, NothingToArrange, LowArrears, NoticeLive, NoNotice, NoCall, Arranged, Certified, InArrears, DepositShort, TooManyOpen, PastLimit, BadBook, BadRecord, TooShort, NoTariff}
-use Rattle.std.specs.Result.{result_unwrap_or}
-use Rattle.rules.specs.Answer.{value_or}
 use Rattle.rules.specs.Refusals.{refusal_number, refusal_of}
 use Rattle.report.proofs.Listing.{listing_length, listing_short, refused_length}
 
@@ -79,8 +77,3 @@ module _ (text old new : List ℕ) (s : SizedText text) where
       on (short_for text old)
       (λ q. rw q (ap Err (number_back n TooShort (rw q at w.number))))
       (λ q. let e : 0 ≡ length text = rw q at w.written in absurd (omega (arith, e, s.some)))
-
--- ---- std's word for a value
-pub value_is : (r : Result ℕ Refusal) → result_unwrap_or r 0 ≡ value_or 0 r
-value_is (Ok n) = refl
-value_is (Err r) = refl

@@ -8,7 +8,8 @@ use Rattle.rules.specs.Deposit.{held}
 use Rattle.rules.specs.Money.{owed, open_items}
 use Rattle.rules.specs.Service.{service, word_of}
 use Rattle.rules.specs.declared.refusals.Refusal.{Refusal}
-use Rattle.rules.specs.Answer.{number_of, value_or}
+use Rattle.std.specs.Result.{result_unwrap_or}
+use Rattle.rules.specs.Answer.{number_of}
 use Rattle.rules.specs.Accepted.{accepted}
 use Rattle.text.specs.Decimal.{decimal, signed}
 use Rattle.bookformat.specs.Book.{AccountList, most_accounts, book_refusal, decode}
@@ -81,7 +82,7 @@ printed_number r = number_of r
 
 -- how many bytes were written, 0 where it is refused
 abbrev pub printed_bytes : Result ℕ Refusal → ℕ
-printed_bytes r = value_or 0 r
+printed_bytes r = result_unwrap_or r 0
 
 -- ---- writing a text
 -- the output is too short for the text

@@ -7,7 +7,8 @@ use native.Mathlib.Omega.{arith}
 use lib.Dec.{leb, ltb, eqb}
 use lib.ListN.{length, get_or}
 use borrow.Author.Tests.{lt-ltb, ltb-true, ltb-false, leb-false, eqb-false, ne_eqb}
-use Rattle.basics.proofs.Cases.{on, on_eq, and_left, and_right, picked}
+use Rattle.std.proofs.lemmas.Bool.{and_parts}
+use Rattle.basics.proofs.Cases.{on, on_eq, picked}
 use Rattle.basics.specs.Lists.{every}
 use Rattle.basics.proofs.Lists.{every_in}
 use Rattle.rules.specs.declared.Event.{Event}
@@ -122,9 +123,9 @@ return_known h e p z =
     let n = length (payments h) in
     let r : eqb (returnable h e.amount) 0 ≡ false = rw z at p.allowed.r6 in
     let k = picked (known h e.amount) _ (eqb-false (returnable h e.amount) 0 r) in
-    let b = and_left (within 1 n e.amount && ltb (n - e.amount) known_receipts) _ k in
-    let w = within_true 1 n e.amount (and_left (within 1 n e.amount) _ b) in
-    record { low = w.0; high = w.1; near = omega (arith, ltb-true (n - e.amount) known_receipts (and_right (within 1 n e.amount) _ b)) }
+    let b = (and_parts (within 1 n e.amount && ltb (n - e.amount) known_receipts) _ k).0 in
+    let w = within_true 1 n e.amount (and_parts (within 1 n e.amount) _ b).0 in
+    record { low = w.0; high = w.1; near = omega (arith, ltb-true (n - e.amount) known_receipts (and_parts (within 1 n e.amount) _ b).1) }
 
 -- no receipt past the count was returned
 pub not_yet : (h : History) → Lawful h → (r : ℕ) → length (payments h) < r → returned h r ≡ false
@@ -163,8 +164,8 @@ known_is h w r =
     let n = length (payments h) in
     on (known h r)
     (λ k.
-    let b = and_left (within 1 n r && ltb (n - r) known_receipts) _ k in
-    let v = within_true 1 n r (and_left (within 1 n r) _ b) in
+    let b = (and_parts (within 1 n r && ltb (n - r) known_receipts) _ k).0 in
+    let v = within_true 1 n r (and_parts (within 1 n r) _ b).0 in
     rw (k, every_in (ltb 0) (payments h) (n - r) 0 (omega arith) (payments_above h w)))
     (λ k. rw k)
 

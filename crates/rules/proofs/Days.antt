@@ -5,16 +5,16 @@ use mathlib.Core.Bool.{true}
 use mathlib.Core.List.{[], ◌∷◌}
 use lib.Dec.{leb}
 use borrow.Author.Tests.{leb-true, le-leb}
-use Rattle.basics.proofs.Cases.{and_left, and_right, and_both}
+use Rattle.std.proofs.lemmas.Bool.{and_from, and_parts}
 use Rattle.rules.specs.History.{History, within, last_posted}
 
 pub within_true : (a b t : ℕ) → within a b t ≡ true → (a ≤ t) × (t ≤ b)
 unfolding within
-within_true a b t e = (leb-true a t (and_left (leb a t) (leb t b) e), leb-true t b (and_right (leb a t) (leb t b) e))
+within_true a b t e = (leb-true a t (and_parts (leb a t) (leb t b) e).0, leb-true t b (and_parts (leb a t) (leb t b) e).1)
 
 pub within_in : (a b t : ℕ) → a ≤ t → t ≤ b → within a b t ≡ true
 unfolding within
-within_in a b t p q = and_both (leb a t) (leb t b) (le-leb a t p) (le-leb t b q)
+within_in a b t p q = and_from (leb a t) (leb t b) (le-leb a t p) (le-leb t b q)
 
 -- no event is posted before the one before it
 abbrev pub Sorted : History → Type 0

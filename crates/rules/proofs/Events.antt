@@ -15,7 +15,8 @@ use Rattle.rules.specs.Money as money
 use Rattle.rules.specs.Notice.{notice_live}
 use Rattle.rules.specs.Medical as medical
 use Rattle.rules.specs.Arrangement.{in_force}
-use Rattle.rules.specs.Answer.{Answer, number_of, value_or, receipt_of}
+use Rattle.std.specs.Result.{result_unwrap_or}
+use Rattle.rules.specs.Answer.{Answer, number_of, receipt_of}
 use Rattle.rules.specs.Accepted.{accepted, answers_by}
 use Rattle.rules.specs.Tariff.{bill_of, bill_lines}
 
@@ -159,7 +160,7 @@ gives s found n = record { name = s; events = []; asks = λ es. found; expected 
 
 -- the cents of the bill of a class and a usage, and the number that refuses one
 abbrev pub bills : String → ℕ → ℕ → ℕ → Case
-bills s class usage n = gives s (value_or 0 (bill_of class usage)) n
+bills s class usage n = gives s (result_unwrap_or (bill_of class usage) 0) n
 
 abbrev pub unbilled : String → ℕ → ℕ → ℕ → Case
 unbilled s class usage n = gives s (number_of (bill_of class usage)) n

@@ -6,8 +6,10 @@ use mathlib.Core.List.{List, [], ◌∷◌, ◌++◌}
 use native.Mathlib.Omega.{arith}
 use lib.ListN.{length}
 use Rattle.basics.specs.Lists.{every}
-use Rattle.basics.proofs.Cases.{on, never, and_left, and_right}
-use Rattle.basics.proofs.Lists.{All}
+use Rattle.std.proofs.lemmas.Bool.{and_parts, false_from_ne_true}
+use Rattle.basics.proofs.Cases.{on}
+use Rattle.std.specs.List.{All}
+use Rattle.std.proofs.lemmas.List.Elements.{All-head, All-tail}
 use Rattle.rules.specs.declared.Item.{Item}
 use Rattle.rules.specs.Money.{keep, sum_of}
 
@@ -23,14 +25,14 @@ pub keep_keep : (P : Item → Type 0) (f g : Item → Bool) → ((x : Item) → 
     → keep g (keep f xs) ≡ keep g xs
 keep_keep P f g h [] p = refl
 keep_keep P f g h (x ∷ xs) p =
-    let ih = keep_keep P f g h xs p.1 in
+    let ih = keep_keep P f g h xs (All-tail P x xs p) in
     on (f x) (λ q. rw (q, ih))
-    (λ q. let n = never (g x) (λ z. true≢false (sym (h x p.0 z) ∙ q)) in rw (q, n, ih))
+    (λ q. let n = false_from_ne_true (g x) (λ z. true≢false (sym (h x (All-head P x xs p) z) ∙ q)) in rw (q, n, ih))
 
 -- two tests that agree keep the same
 pub keep_same : (P : Item → Type 0) (f g : Item → Bool) → ((x : Item) → P x → f x ≡ g x) → (xs : List Item) → All P xs → keep f xs ≡ keep g xs
 keep_same P f g h [] p = refl
-keep_same P f g h (x ∷ xs) p = rw (h x p.0, keep_same P f g h xs p.1)
+keep_same P f g h (x ∷ xs) p = rw (h x (All-head P x xs p), keep_same P f g h xs (All-tail P x xs p))
 
 pub keep_short : (f : Item → Bool) (xs : List Item) → length (keep f xs) ≤ length xs
 keep_short f [] = zero-le
@@ -41,8 +43,8 @@ keep_short f (x ∷ xs) =
 pub every_keep : (q f : Item → Bool) (xs : List Item) → every q xs ≡ true → every q (keep f xs) ≡ true
 every_keep q f [] e = refl
 every_keep q f (x ∷ xs) e =
-    let ih = every_keep q f xs (and_right (q x) (every q xs) e) in
-    on (f x) (λ z. rw (z, and_left (q x) (every q xs) e) ih) (λ z. rw z ih)
+    let ih = every_keep q f xs (and_parts (q x) (every q xs) e).1 in
+    on (f x) (λ z. rw (z, (and_parts (q x) (every q xs) e).0) ih) (λ z. rw z ih)
 
 -- ---- sums
 pub sum_append : (f : Item → ℕ) (xs ys : List Item) → sum_of f (xs ++ ys) ≡ sum_of f xs + sum_of f ys

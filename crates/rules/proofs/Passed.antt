@@ -5,7 +5,7 @@ use mathlib.Core.Bool.{Bool, true, false, cond, not, ◌&&◌}
 use mathlib.Core.List.{List, [], ◌∷◌}
 use lib.Dec.{ltb, eqb}
 use borrow.Author.Tests.{ltb-false, eqb-false, not-true, not-false}
-use Rattle.basics.proofs.Cases.{and_left, and_right}
+use Rattle.std.proofs.lemmas.Bool.{and_parts}
 use Rattle.rules.specs.declared.Event.{Event}
 use Rattle.rules.specs.declared.View.{View}
 use Rattle.rules.specs.Limits.{final_day}
@@ -79,9 +79,9 @@ numbered (r ∷ rs) = not (eqb r.number 0) && numbered rs
 free : (rs : List Row) (v : View) (e : Event) → numbered rs ≡ true → first_of rs v e 0 ≡ 0 → Free rs v e
 free [] v e n p = tt
 free (r ∷ rs) v e n p =
-    let z = not-true (eqb r.number 0) (and_left (not (eqb r.number 0)) (numbered rs) n) in
+    let z = not-true (eqb r.number 0) (and_parts (not (eqb r.number 0)) (numbered rs) n).0 in
     let s = skipped (r.refuses v e) r.number (first_of rs v e 0) (eqb-false r.number 0 z) p in
-    (s.0, free rs v e (and_right (not (eqb r.number 0)) (numbered rs) n) s.1)
+    (s.0, free rs v e (and_parts (not (eqb r.number 0)) (numbered rs) n).1 s.1)
 
 pub allowed : (v : View) (e : Event) → refusal_by v e ≡ 0 → Allowed v e
 unfolding refusal_by

@@ -4,7 +4,8 @@ use mathlib.Core.Path.{◌≡◌, subst}
 use mathlib.Core.Bool.{true}
 use lib.ListN.{get_or}
 use borrow.Author.Tests.{eqb-true}
-use Rattle.basics.proofs.Cases.{and_left, and_right, at_most}
+use Rattle.std.proofs.lemmas.Bool.{and_parts}
+use Rattle.basics.proofs.Cases.{at_most}
 use Rattle.rules.specs.declared.Event.{Event}
 use Rattle.rules.specs.declared.Fields.{Fields}
 use Rattle.rules.specs.History.{is, within, amount_if}
@@ -19,8 +20,8 @@ pub record Within (f : Fields) (e : Event) : Type 0 where
 
 pub fitting : (f : Fields) (e : Event) → fits f e ≡ true → Within f e
 fitting f e r =
-    let o = within_true f.option_from f.option_to e.option (and_left (within f.option_from f.option_to e.option) _ r) in
-    let a = within_true f.amount_from f.amount_to e.amount (and_right (within f.option_from f.option_to e.option) _ r) in
+    let o = within_true f.option_from f.option_to e.option (and_parts (within f.option_from f.option_to e.option) _ r).0 in
+    let a = within_true f.amount_from f.amount_to e.amount (and_parts (within f.option_from f.option_to e.option) _ r).1 in
     record { option_low = o.0; option_high = o.1; amount_low = a.0; amount_high = a.1 }
 
 -- an event of kind k that is in range

@@ -5,7 +5,8 @@ use mathlib.Core.Bool.{false, cond, ◌&&◌, ◌||◌, or-false}
 use native.Mathlib.Omega.{arith}
 use lib.Dec.{ltb}
 use borrow.Author.Tests.{ltb-false}
-use Rattle.basics.proofs.Cases.{on, on_eq, or_left, or_right}
+use Rattle.std.proofs.lemmas.Bool.{or_parts}
+use Rattle.basics.proofs.Cases.{on, on_eq}
 use Rattle.rules.specs.declared.Event.{Event}
 use Rattle.rules.specs.declared.View.{View}
 use Rattle.rules.specs.Kinds.{payment, returned_payment, payout}
@@ -36,13 +37,13 @@ room v e a c d =
     let crediting = (is payment e || moves e) && ltb limit (v.credited + credit_of v e) in
     let r : v.charged + charge_of v e ≤ limit =
     on (charges e)
-    (λ q. ltb-false limit (v.charged + charge_of v e) (rw q at (or_left owing crediting a.r19)))
+    (λ q. ltb-false limit (v.charged + charge_of v e) (rw q at (or_parts owing crediting a.r19).0))
     (λ q. let n = no_charge v.charged v.credits v.payment e q in omega arith) in
     record {
       charged_room = r;
       credited_room =
           on (is payment e || moves e)
-          (λ q. ltb-false limit (v.credited + credit_of v e) (rw q at (or_right owing crediting a.r19)))
+          (λ q. ltb-false limit (v.credited + credit_of v e) (rw q at (or_parts owing crediting a.r19).1))
           (λ q. let n = no_credit v.held e q in omega arith);
       payout_room = payout_in v e a.r7;
       payment_room = omega arith;

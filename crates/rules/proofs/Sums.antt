@@ -5,7 +5,8 @@ use mathlib.Core.Bool.{Bool, false, cond, ◌||◌}
 use mathlib.Core.List.{[], ◌∷◌}
 use native.Mathlib.Omega.{arith}
 use lib.ListN.{length}
-use Rattle.basics.proofs.Cases.{on, on_eq, or_left, or_right}
+use Rattle.std.proofs.lemmas.Bool.{or_parts}
+use Rattle.basics.proofs.Cases.{on, on_eq}
 use Rattle.rules.specs.declared.Event.{Event}
 use Rattle.rules.specs.Kinds.{bill, payment, returned_payment, fee, deposit_paid, final_notice, reconnection}
 use Rattle.rules.specs.History.{History, is, count, since, amount_if, total, newest}
@@ -71,20 +72,20 @@ no_charge c p r e q =
     let m = b || is returned_payment e in
     let f = m || is fee e in
     let n = f || is final_notice e in
-    let qn = or_left n (is reconnection e) q in
-    let qf = or_left f (is final_notice e) qn in
-    let qm = or_left m (is fee e) qf in
+    let qn = (or_parts n (is reconnection e) q).0 in
+    let qf = (or_parts f (is final_notice e) qn).0 in
+    let qm = (or_parts m (is fee e) qf).0 in
     simp (
-      or_left b (is returned_payment e) qm,
-      or_right b (is returned_payment e) qm,
-      or_right m (is fee e) qf,
-      or_right f (is final_notice e) qn,
-      or_right n (is reconnection e) q,
+      (or_parts b (is returned_payment e) qm).0,
+      (or_parts b (is returned_payment e) qm).1,
+      (or_parts m (is fee e) qf).1,
+      (or_parts f (is final_notice e) qn).1,
+      (or_parts n (is reconnection e) q).1,
     )
 
 -- an event that is no payment and moves no deposit credits nothing
 pub no_credit : (held : ℕ) (e : Event) → (is payment e || moves e) ≡ false → credit_by held e ≡ 0
-no_credit held e q = simp (or_left (is payment e) (moves e) q, or_right (is payment e) (moves e) q)
+no_credit held e q = simp ((or_parts (is payment e) (moves e) q).0, (or_parts (is payment e) (moves e) q).1)
 
 -- C is the sum of the items' amounts
 pub charged_items : (h : History) → sum_of (λ x. x.amount) (items h) ≡ charged h

@@ -1,5 +1,5 @@
 -- An answer: a value, or refused with a number; document 01's number and value of it, by cases.
-use Rattle.std.specs.Prelude.{ℕ, Bool, true, false, cond, eqb, Result, Ok, Err}
+use Rattle.std.specs.Prelude.{ℕ, cond, eqb, Result, Ok, Err}
 use Rattle.rules.specs.declared.refusals.Refusal.{Refusal}
 use Rattle.rules.specs.Refusals.{refusal_number, refusal_of}
 
@@ -11,16 +11,6 @@ answered n x = cond (eqb n 0) (Ok x) (Err (refusal_of n))
 abbrev pub number_of : {A : Type 0} → Result A Refusal → ℕ
 number_of (Ok x) = 0
 number_of (Err r) = refusal_number r
-
--- something is told
-abbrev pub is_told : {A : Type 0} → Result A Refusal → Bool
-is_told (Ok x) = true
-is_told (Err r) = false
-
--- the value, and `none` where it is refused
-abbrev pub value_or : {A : Type 0} → A → Result A Refusal → A
-value_or none (Ok x) = x
-value_or none (Err r) = none
 
 -- ---- the answer to an event: accepted with the receipt of a payment, 0 for others; or refused
 abbrev pub Answer : Type 0

@@ -11,13 +11,13 @@ abbrev pub basic_charges : List ℕ
 basic_charges = 1_031 ∷ 1_229 ∷ 2_218 ∷ []
 
 abbrev block : ℕ → ℕ → Block
-block l p = record { 0 = l; 1 = p }
+block l p = record { limit = l; price = p }
 
 abbrev pub limit_of : Block → ℕ
-limit_of b = b.0
+limit_of b = b.limit
 
 abbrev pub price_of : Block → ℕ
-price_of b = b.1
+price_of b = b.price
 
 -- the schedules, a row of block limits and prices for each class: all energy 731; all 767; 767, 647 and 467
 abbrev pub schedules : List (List Block)

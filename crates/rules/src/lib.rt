@@ -8,6 +8,8 @@ pub mod refusals;
 
 ghost use Rattle.std.specs.Prelude.{◌≡◌};
 ghost use Rattle.rules.specs.History.{is};
+ghost use Rattle.rules.specs.Deposit.{moves as moves_deposit};
+ghost use Rattle.rules.specs.Range.{WellFormed};
 ghost use Rattle.rules.specs.Service.{is_on, is_off, is_closed};
 ghost use Rattle.rules.specs.Kinds.{kind_number};
 
@@ -24,6 +26,13 @@ pub struct Event {
     pub amount: u64,
 }
 
+// An event that rows 1 and 3 let pass: its day and its fields are in range. The parts of an account take no other.
+#[derive(Clone, Copy)]
+pub struct InRange {
+    pub event: Event,
+    ghost well_formed: { WellFormed event },
+}
+
 // The ranges of an event's option and amount, both ends included.
 #[derive(Clone, Copy)]
 pub struct Fields {
@@ -35,9 +44,9 @@ pub struct Fields {
 
 #[derive(Clone, Copy, Debug, PartialEq, Eq)]
 pub enum Service {
-    On,
-    Off,
-    Closed,
+    On = 0,
+    Off = 1,
+    Closed = 2,
 }
 
 // Accepted, with the receipt of a payment or 0; or refused.
@@ -61,7 +70,8 @@ pub struct View {
     pub credited: u64,
     // the same less payouts (document 01: P)
     pub credits: u64,
-    // the payment of the receipt that the event names, 0 where it is not known or was returned
+    // the payment of the receipt that the event names, 0 where it is not known or was returned: a place in memory is 0 for both, and
+    // an Option would be made of it here only for row 6 to ask it back
     pub payment: u64,
     pub held: u64,
     pub required: u64,
@@ -81,7 +91,10 @@ pub struct View {
 // A block of a schedule, its limit and its price: the usage from the limit of the block before it up to its own costs so many
 // hundredths of a cent for each kilowatt-hour.
 #[derive(Clone, Copy)]
-pub struct Block(pub u64, pub u64);
+pub struct Block {
+    pub limit: u64,
+    pub price: u64,
+}
 
 // A line of a bill: so many kilowatt-hours, at the price of their block.
 #[derive(Clone, Copy)]
@@ -97,6 +110,13 @@ impl Event {
         ensures { result ≡ is (kind_number kind) self }
     {
         self.kind == kind.number()
+    }
+
+    // Whether it moves the deposit.
+    pub fn moves_deposit(self) -> bool
+        ensures { result ≡ moves_deposit self }
+    {
+        self.is(Kind::DepositMoved) | self.is(Kind::Closing)
     }
 }
 

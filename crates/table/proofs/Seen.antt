@@ -1,7 +1,8 @@
 -- What an event's kind does not look at may be left out: the table, the charge and the credit are the same.
 use mathlib.Core.Path.{◌≡◌, refl}
 use mathlib.Core.Bool.{true, false, ◌||◌}
-use Rattle.basics.proofs.Cases.{on, or_left, or_right}
+use Rattle.std.proofs.lemmas.Bool.{or_parts}
+use Rattle.basics.proofs.Cases.{on}
 use Rattle.rules.specs.declared.Event.{Event}
 use Rattle.rules.specs.declared.View.{View}
 use Rattle.rules.specs.Kinds.{returned_payment, deposit_moved, arrangement, final_notice, disconnection, reconnection}
@@ -19,13 +20,13 @@ record NoDebt (e : Event) : Type 0 where
 no_debt : (e : Event) → looks_at_debt e ≡ false → NoDebt e
 unfolding looks_at_debt
 no_debt e f =
-    let three = or_left _ (is reconnection e) f in
-    let two = or_left _ (is disconnection e) three in
+    let three = (or_parts _ (is reconnection e) f).0 in
+    let two = (or_parts _ (is disconnection e) three).0 in
     record {
-      no_arrangement_made = or_left _ (is final_notice e) two;
-      no_notice_sent = or_right (is arrangement e) _ two;
-      no_cut = or_right (is arrangement e || is final_notice e) _ three;
-      no_reconnection = or_right (is arrangement e || is final_notice e || is disconnection e) _ f;
+      no_arrangement_made = (or_parts _ (is final_notice e) two).0;
+      no_notice_sent = (or_parts (is arrangement e) _ two).1;
+      no_cut = (or_parts (is arrangement e || is final_notice e) _ three).1;
+      no_reconnection = (or_parts (is arrangement e || is final_notice e || is disconnection e) _ f).1;
     }
 
 module _ (v : View) (e : Event) where

@@ -35,13 +35,14 @@ fn row4(v: View, e: Event) -> bool
         & !(e.is(Kind::Payment) | e.is(Kind::ReturnedPayment) | e.is(Kind::Payout))
 }
 
-// 5 to 19, of which each kind has its own. A certificate, an approval and a kind that is not known have none.
+// 5 to 19, of which each kind has its own; `charge` is the amount of the item that the event makes. A certificate, an approval and a kind that is not known have none.
 #[tactic(auto, unfolding(crate::specs::ByKind::from_row5), using(crate::proofs::Equations::passing, crate::proofs::ByKind::of_unknown))]
 fn from_row5(v: View, e: Event, charge: u64) -> Result<(), Refusal>
     requires { charge ≡ min (charge_of v e) largest }
     ensures { result ≡ answered (from_row5 v e) tt }
 {
     match Kind::try_from(e.kind) {
+        // Two arms alike: an or-pattern under Ok leaves open to the check which kind it was.
         Ok(Kind::Bill) => arms::item_rows(v.open_count, v.charged, charge),
         Ok(Kind::Fee) => arms::item_rows(v.open_count, v.charged, charge),
         Ok(Kind::Payment) => arms::credit_rows(v.credited, e.amount),
@@ -61,12 +62,13 @@ fn from_row5(v: View, e: Event, charge: u64) -> Result<(), Refusal>
     }
 }
 
-// Rows 4 to 19: refused by the first that refuses the event. `charge` is the amount of the item that it makes.
+// Rows 4 to 19: refused by the first that refuses the event; where none does, the amount of the item that it makes, 0 where it makes none.
 #[tactic(auto, unfolding(crate::specs::ByKind::from_row5, rules::specs::Table::refusal_by))]
-pub fn check(v: View, e: Event, charge: u64) -> Result<(), Refusal>
-    requires { charge ≡ min (charge_of v e) largest }
-    ensures { result ≡ answered (refusal_by v e) tt }
+pub fn check(v: View, e: Event) -> Result<u64, Refusal>
+    ensures { result ≡ answered (refusal_by v e) (min (charge_of v e) largest) }
 {
     Refusal::Closed.when(row4(v, e))?;
-    from_row5(v, e, charge)
+    let charge = amounts::charge(v, e);
+    from_row5(v, e, charge)?;
+    Ok(charge)
 }

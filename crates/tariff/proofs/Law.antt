@@ -9,7 +9,8 @@ use lib.Dec.{leb, eqb}
 use lib.ListN.{length, get_or}
 use borrow.Author.Tests.{leb-true, eqb-true}
 use Rattle.basics.specs.Lists.{every}
-use Rattle.basics.proofs.Cases.{and_both, Each, links}
+use Rattle.std.proofs.lemmas.Bool.{and_from}
+use Rattle.basics.proofs.Cases.{Each, links}
 use Rattle.basics.proofs.Lists.{every_in}
 use Rattle.rules.specs.declared.Block.{Block}
 use Rattle.rules.specs.Kinds as kinds
@@ -72,7 +73,7 @@ module _ (class usage : ℕ) (a : Allowed class usage) where
   pub posts : (t : ℕ) → in_range (record { kind = kinds.bill; option = 0; day = t; amount = cents_of class usage }) ≡ true
   unfolding in_range
   posts t =
-      and_both (within 0 0 0) (within 1 most_amount (cents_of class usage)) (within_in 0 0 0 (omega arith) (omega arith))
+      and_from (within 0 0 0) (within 1 most_amount (cents_of class usage)) (within_in 0 0 0 (omega arith) (omega arith))
       (within_in 1 most_amount (cents_of class usage) bill_in_range.0 bill_in_range.1)
 
   -- the bill grows strictly with the usage

@@ -31,30 +31,30 @@ const SCHEDULES: [Schedule; CLASSES] = [
     Schedule {
         basic_charge: 1_031,
         blocks: [
-            Block(15_000, 731),
-            Block(50_000, 731),
-            Block(MOST_USAGE, 731),
+            Block { limit: 15_000, price: 731 },
+            Block { limit: 50_000, price: 731 },
+            Block { limit: MOST_USAGE, price: 731 },
         ],
     },
     Schedule {
         basic_charge: 1_229,
         blocks: [
-            Block(15_000, 767),
-            Block(50_000, 767),
-            Block(MOST_USAGE, 767),
+            Block { limit: 15_000, price: 767 },
+            Block { limit: 50_000, price: 767 },
+            Block { limit: MOST_USAGE, price: 767 },
         ],
     },
     Schedule {
         basic_charge: 2_218,
         blocks: [
-            Block(15_000, 767),
-            Block(50_000, 647),
-            Block(MOST_USAGE, 467),
+            Block { limit: 15_000, price: 767 },
+            Block { limit: 50_000, price: 647 },
+            Block { limit: MOST_USAGE, price: 467 },
         ],
     },
 ];
 
-// What stands past the last line.
+// What stands past the last line. C asks for the two numbers by themselves, so that there is no line is said by them.
 const NO_LINE: Line = Line { used: 0, price: 0 };
 
 impl Schedule {
@@ -63,7 +63,7 @@ impl Schedule {
         requires { i < 3 }
         ensures { result ≡ start_of self.blocks i }
     {
-        if i == 0 { 0 } else { self.blocks[i - 1].0 }
+        if i == 0 { 0 } else { self.blocks[i - 1].limit }
     }
 
     // The line of block i: what of the usage lies in it, at its price.
@@ -71,7 +71,7 @@ impl Schedule {
         requires { i < 3 }
         ensures { result ≡ get_or (lines_from 0 self.blocks usage) i no_line }
     {
-        let Block(limit, price) = self.blocks[i];
+        let Block { limit, price } = self.blocks[i];
         Line {
             used: usage.min(limit).saturating_sub(self.start(i)),
             price,

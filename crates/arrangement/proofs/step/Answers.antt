@@ -8,6 +8,6 @@ use Rattle.arrangement.proofs.step.Goals as goal
 pub overflow_add-w : goal.overflow_add-w
 overflow_add-w c =
     let sums = c.requires.1 in
-    let e = c.args.e in
+    let e = c.args.posted.event in
     let z = eqb-true e.kind payment (sym c.is.ensures ∙ c.if-is.true) in
-    omega (arith, sums.paid_le, sums.returned_le, (ranged payment e c.requires.2.fields_fit z).amount_high)
+    omega (arith, sums.paid_le, sums.returned_le, (ranged payment e c.args.posted.well_formed.fields_fit z).amount_high)

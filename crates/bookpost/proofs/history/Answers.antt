@@ -1,19 +1,18 @@
 use Rattle.std.proofs.Common.{length}
-use Rattle.std.proofs.lemmas.Result.{err_from_is_err_and}
-use Rattle.rules.proofs.Numbered.{answered_ok}
+use Rattle.rules.proofs.Numbered.{answered_ok, handed_on}
 use Rattle.bookpost.proofs.Noting.{book_first, history_room, history_told, history_none}
 use Rattle.bookpost.specs.BookHistory.{history_refusal}
 use Rattle.bookpost.proofs.history.Goals as goal
 
 pub returns-in_err-book-clause-told_history : goal.returns-in_err-book-clause-told_history
 returns-in_err-book-clause-told_history c =
-    let p = err_from_is_err_and c.from_residual.result c.from_residual.ensures.1 in
-    rw (p.1, p.2) (history_none _ _ _ _ _ (book_first _ _ _ c.in_err-book.ensures))
+    let left = handed_on _ c.from_residual.ensures.1 in
+    rw left (history_none _ _ _ _ _ (book_first _ _ _ c.in_err-book.ensures))
 
 pub returns-in_err-check_history-clause-told_history : goal.returns-in_err-check_history-clause-told_history
 returns-in_err-check_history-clause-told_history c =
-    let p = err_from_is_err_and c.from_residual-in_err-check_history.result c.from_residual-in_err-check_history.ensures.1 in
-    rw (p.1, p.2, ← c.in_ok-book.ensures) (history_none _ _ _ _ _ c.in_err-check_history.ensures)
+    let left = handed_on _ c.from_residual-in_err-check_history.ensures.1 in
+    rw (left, ← c.in_ok-book.ensures) (history_none _ _ _ _ _ c.in_err-check_history.ensures)
 
 pub note_account-requires : goal.note_account-requires
 note_account-requires c =

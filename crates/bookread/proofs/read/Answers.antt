@@ -1,8 +1,8 @@
-use Rattle.std.proofs.lemmas.Result.{err_from_is_err_and}
+use Rattle.rules.proofs.Numbered.{handed_on}
 use Rattle.bookformat.proofs.Stored.{gave_none}
 use Rattle.bookread.proofs.read.Goals as goal
 
 pub returns-in_err-check-clause-gave : goal.returns-in_err-check-clause-gave
 returns-in_err-check-clause-gave c =
-    let p = err_from_is_err_and c.from_residual.result c.from_residual.ensures.1 in
-    rw (p.1, p.2) (gave_none _ _ _ _ _ _ _ c.in_err-check.ensures)
+    let left = handed_on _ c.from_residual.ensures.1 in
+    rw left (gave_none _ _ _ _ _ _ _ c.in_err-check.ensures)

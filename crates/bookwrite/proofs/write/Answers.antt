@@ -1,11 +1,11 @@
-use Rattle.std.proofs.lemmas.Result.{err_from_is_err_and}
+use Rattle.rules.proofs.Numbered.{handed_on}
 use Rattle.bookformat.proofs.Stored.{wrote_none, wrote_done}
 use Rattle.bookwrite.proofs.write.Goals as goal
 
 pub returns-in_err-check-clause-wrote_book : goal.returns-in_err-check-clause-wrote_book
 returns-in_err-check-clause-wrote_book c =
-    let p = err_from_is_err_and c.from_residual.result c.from_residual.ensures.1 in
-    rw (p.1, p.2) (wrote_none _ _ _ _ _ _ _ c.in_err-check.ensures)
+    let left = handed_on _ c.from_residual.ensures.1 in
+    rw left (wrote_none _ _ _ _ _ _ _ c.in_err-check.ensures)
 
 pub returns-clause-wrote_book : goal.returns-clause-wrote_book
 returns-clause-wrote_book c = wrote_done _ _ _ _ _ _ _ _ c.in_ok-check.ensures c.put_book.ensures

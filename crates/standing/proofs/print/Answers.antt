@@ -1,9 +1,8 @@
 use Rattle.std.proofs.Common.{arith}
-use Rattle.report.proofs.Texts.{value_is}
 use Rattle.standing.proofs.Room.{prints}
 use Rattle.standing.proofs.print.Goals as goal
 
 pub returns : goal.returns
 returns c =
     let p = c.report_input in
-    rw (c.unwrap_or.ensures, value_is p.result) (prints _ _ _ p.result (omega arith) p.ensures)
+    rw c.unwrap_or.ensures (prints _ _ _ p.result (omega arith) p.ensures)

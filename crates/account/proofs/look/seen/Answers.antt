@@ -9,6 +9,6 @@ returns c =
       c.service.ensures,
       c.money_for-n.ensures,
       c.debts_for-d.ensures,
-      c.load-c.ensures,
+      c.collection-c.ensures,
     )
-    (seen_is (state_on c.args.m.now) c.args.e)
+    (seen_is (state_on c.args.account.words.now) c.args.e)

@@ -1,31 +1,24 @@
-use Rattle.std.proofs.lemmas.Result.{err_from_is_err_and}
-use Rattle.account.specs.State.{state_on, view}
+use Rattle.std.proofs.Common.{sym, refl, ap, ◌∙◌}
+use Rattle.rules.specs.Table.{refusal_by}
+use Rattle.rules.proofs.Numbered.{answered_ok, answered_err, handed_on}
 use Rattle.table.proofs.Seen.{refusal_seen}
+use Rattle.account.specs.State.{state_on, view}
 use Rattle.account.specs.Looks.{offer_of}
-use Rattle.account.proofs.Exits.{refused_first, refused_rest, passed_rest}
 use Rattle.account.proofs.rows.ask.Goals as goal
 
-pub returns-in_err-check_event : goal.returns-in_err-check_event
-returns-in_err-check_event c =
-    let p = err_from_is_err_and c.from_residual.result c.from_residual.ensures.1 in
-    let a = c.args in
-    let s = state_on a.m.now in
-    rw (p.1, p.2) (refused_first s a.e _ (offer_of s a.e) (rw c.word.ensures at c.in_err-check_event.ensures))
-
-pub returns-in_err-check : goal.returns-in_err-check
-returns-in_err-check c =
-    let p = err_from_is_err_and c.from_residual-in_err-check.result c.from_residual-in_err-check.ensures.1 in
-    let a = c.args in
-    let s = state_on a.m.now in
-    let first = rw c.word.ensures at c.in_ok-check_event.ensures in
-    let same = rw (← c.seen-view.ensures) at (refusal_seen (view s a.e) a.e) in
-    rw (p.1, p.2) (refused_rest s a.e _ _ (offer_of s a.e) first same c.in_err-check.ensures)
+-- the rows say the same of what the event's kind looks at as of all that is seen
+pub returns-in_err-charge : goal.returns-in_err-charge
+returns-in_err-charge c =
+    let left = handed_on _ c.from_residual.ensures.1 in
+    let s = state_on c.args.account.words.now in
+    let e = c.args.e in
+    let same = ap (λ v. refusal_by v e) c.seen-view.ensures ∙ refusal_seen (view s e) e in
+    left ∙ rw same at (answered_err (refusal_by c.seen-view.result e) _ _ (offer_of s e) c.in_err-charge.ensures).1
 
 pub returns : goal.returns
 returns c =
-    let a = c.args in
-    let s = state_on a.m.now in
-    let first = rw c.word.ensures at c.in_ok-check_event.ensures in
-    let same = rw (← c.seen-view.ensures) at (refusal_seen (view s a.e) a.e) in
-    let none = passed_rest s a.e _ first same c.in_ok-check.ensures in
-    rw (none, c.charge-charge.ensures, c.seen-view.ensures)
+    let s = state_on c.args.account.words.now in
+    let e = c.args.e in
+    let q = rw (c.seen-view.ensures, refusal_seen (view s e) e) at c.in_ok-charge.ensures in
+    let p = answered_ok _ _ _ q in
+    rw (p.0, p.1, c.seen-view.ensures)

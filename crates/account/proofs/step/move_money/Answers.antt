@@ -1,4 +1,5 @@
 use mathlib.Core.Path.{◌∙◌}
+use Rattle.ledger.proofs.ByKind.{item_room, item_after}
 use Rattle.account.proofs.Steps.{passing_room, charge_exact, money_room, receipts_still, arrangement_still, money_by}
 use borrow.Author.Rules.{rules}
 use Rattle.account.proofs.step.move_money.Goals as goal
@@ -6,35 +7,39 @@ use Rattle.account.proofs.step.move_money.Goals as goal
 pub step-requires : goal.step-requires
 step-requires c =
     let a = c.args in
+    let e = a.posted.event in
     let p = c.requires in
     record {
       w_len = search rules;
       ledger_fit = p.fit.fit.ledger_fit;
       ledger_room =
-          rw (c.credit-credit.ensures, c.charges-adds.ensures, charge_exact a.m.now a.e a.v a.charge p)
-          (money_room a.m.now a.e a.v a.charge p);
+          rw (c.credit-credit.ensures, c.then_some-item.ensures, c.charges.ensures, charge_exact a.m.now e a.v a.charge p)
+          (item_room _ e _ _ _ (money_room a.m.now e a.v a.charge p));
     }
 
 pub step-requires-2 : goal.step-requires-2
 step-requires-2 c =
     let a = c.args in
-    (search rules, rw (receipts_still a.m.now c.requires.fit.words_are a.e c.step.new.w (search rules)) c.requires.fit.fit.receipts_fit)
+    (search rules, rw (receipts_still a.m.now c.requires.fit.words_are a.posted.event c.step.new.w (search rules)) c.requires.fit.fit.receipts_fit)
 
 pub step-requires-3 : goal.step-requires-3
 step-requires-3 c =
-    let a = c.args in (
+    let a = c.args in
+    let e = a.posted.event in (
       search rules,
-      rw (arrangement_still a.m.now c.requires.fit.words_are a.e c.step.new.w (search rules) c.step-2.new.w (search rules))
+      rw (arrangement_still a.m.now c.requires.fit.words_are e c.step.new.w (search rules) c.step-2.new.w (search rules))
           c.requires.fit.fit.arrangement_fit,
-      c.requires.well,
-      (passing_room a.m.now a.e a.v a.charge c.requires).payment_room,
+      (passing_room a.m.now e a.v a.charge c.requires).payment_room,
     )
 
 pub returns : goal.returns
 returns c =
     let a = c.args in
-    money_by a.m.now c.requires.fit.words_are a.e c.step.new.w (search rules) c.step-2.new.w (search rules) c.step-3.new.w
+    let e = a.posted.event in
+    money_by a.m.now c.requires.fit.words_are e c.step.new.w (search rules) c.step-2.new.w (search rules) c.step-3.new.w
     a.v (search rules)
-    (c.step.ensures ∙ rw (c.credit-credit.ensures, c.charges-adds.ensures, charge_exact a.m.now a.e a.v a.charge c.requires))
+    (c.step.ensures
+    ∙ rw (c.credit-credit.ensures, c.then_some-item.ensures, c.charges.ensures, charge_exact a.m.now e a.v a.charge c.requires)
+    (item_after _ e _ _ _))
     c.step-2.ensures
     c.step-3.ensures

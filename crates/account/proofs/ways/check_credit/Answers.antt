@@ -1,9 +1,11 @@
-use Rattle.std.proofs.Common.{ap}
+use Rattle.std.proofs.Common.{ap, ◌∙◌}
 use Rattle.rules.specs.Answer.{answered}
+use Rattle.ledger.specs.Ledger.{sums_of}
 use Rattle.account.specs.State.{state_on}
 use Rattle.account.proofs.OwnWays.{payment_row}
 use Rattle.account.proofs.ways.check_credit.Goals as goal
 
 pub returns : goal.returns
 returns c =
-    rw (c.credit_rows.ensures, c.sums_of.ensures) (ap (λ n. answered n tt) (payment_row (state_on c.args.m.now) c.args.e c.requires.1))
+    let sums = c.sums_of.ensures ∙ ap sums_of c.ledger.ensures.words in
+    rw (c.credit_rows.ensures, sums) (ap (λ n. answered n tt) (payment_row (state_on c.args.account.words.now) c.args.e c.requires))

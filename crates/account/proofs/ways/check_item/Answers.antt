@@ -1,17 +1,30 @@
-use Rattle.std.proofs.lemmas.Result.{err_from_is_err_and}
+use Rattle.std.proofs.Common.{refl, ap, ◌∙◌}
+use Rattle.rules.proofs.Numbered.{answered_ok, answered_err, handed_on, when_err, when_ok}
+use Rattle.ledger.specs.Ledger.{sums_of}
 use Rattle.account.specs.State.{state_on}
-use Rattle.account.proofs.OwnWays.{item_row, row_err, row_ok}
+use Rattle.account.proofs.OwnWays.{item_row}
 use Rattle.account.proofs.ways.check_item.Goals as goal
 
 pub returns-in_err-when : goal.returns-in_err-when
 returns-in_err-when c =
-    let p = err_from_is_err_and c.from_residual.result c.from_residual.ensures.1 in
+    let left = handed_on _ c.from_residual.ensures.1 in
     let a = c.args in
-    let h = rw (c.is_closed.ensures, c.service.ensures, c.load-c.ensures) at c.in_err-when.ensures in
-    rw (p.1, p.2, ← item_row (state_on a.m.now) a.e a.charge c.requires.1 c.requires.2) (row_err _ _ _ h)
+    let closed = when_err _ _ _ (rw (c.is_closed.ensures, c.service.ensures, c.collection.ensures) at c.in_err-when.ensures) in
+    rw (left, ← item_row (state_on a.account.words.now) a.e _ c.requires refl, closed.0, closed.1) refl
+
+pub returns-in_err-item_rows : goal.returns-in_err-item_rows
+returns-in_err-item_rows c =
+    let left = handed_on _ c.from_residual-in_err-item_rows.ensures.1 in
+    let a = c.args in
+    let served = when_ok _ _ _ (rw (c.is_closed.ensures, c.service.ensures, c.collection.ensures) at c.in_ok-when.ensures) in
+    let sums = c.sums_of-s.ensures ∙ ap sums_of c.ledger.ensures.words in
+    rw (left, ← item_row (state_on a.account.words.now) a.e _ c.requires c.amount_of-charge.ensures, served)
+    (answered_err _ _ _ _ (rw sums at c.in_err-item_rows.ensures)).1
 
 pub returns : goal.returns
 returns c =
     let a = c.args in
-    let h = row_ok _ _ (rw (c.is_closed.ensures, c.service.ensures, c.load-c.ensures) at c.in_ok-when.ensures) in
-    rw (c.item_rows.ensures, c.sums_of-s.ensures, ← item_row (state_on a.m.now) a.e a.charge c.requires.1 c.requires.2, h)
+    let served = when_ok _ _ _ (rw (c.is_closed.ensures, c.service.ensures, c.collection.ensures) at c.in_ok-when.ensures) in
+    let sums = c.sums_of-s.ensures ∙ ap sums_of c.ledger.ensures.words in
+    let rows = answered_ok _ _ _ (rw sums at c.in_ok-item_rows.ensures) in
+    rw (← item_row (state_on a.account.words.now) a.e _ c.requires c.amount_of-charge.ensures, served, rows.0, c.amount_of-charge.ensures)

@@ -9,22 +9,21 @@ use borrow.Author.Rules.{rules}
 use Rattle.account.proofs.ways.take_payment.Goals as goal
 
 pub step-requires-clause-ledger_room : goal.step-requires-clause-ledger_room
-step-requires-clause-ledger_room c = payment_ledger c.args.m.now c.args.e c.requires.0 c.requires.1
+step-requires-clause-ledger_room c = payment_ledger c.args.m.now c.args.posted.event c.requires.0 c.requires.1
 
 pub step-requires-3 : goal.step-requires-3
 step-requires-3 c =
     let a = c.args in
     let f = c.requires.0.fit in (
       search rules,
-      rw (arrangement_still a.m.now f.words_are a.e c.step.new.w (search rules) c.step-2.new.w (search rules)) f.fit.arrangement_fit,
-      c.requires.0.well,
-      at_most (is returned_payment a.e) 0 limit (λ _. zero-le),
+      rw (arrangement_still a.m.now f.words_are a.posted.event c.step.new.w (search rules) c.step-2.new.w (search rules)) f.fit.arrangement_fit,
+      at_most (is returned_payment a.posted.event) 0 limit (λ _. zero-le),
     )
 
 pub returns : goal.returns
 returns c =
     let a = c.args in
-    payment_by_lem a.m.now c.requires.0.fit.words_are a.e c.requires.1 c.step.new.w (search rules) c.step-2.new.w (search rules)
+    payment_by_lem a.m.now c.requires.0.fit.words_are a.posted.event c.requires.1 c.step.new.w (search rules) c.step-2.new.w (search rules)
     c.step-3.new.w (search rules)
     c.step.ensures
     c.step-2.ensures

@@ -1,22 +1,28 @@
-use Rattle.std.proofs.lemmas.Result.{err_from_is_err_and}
-use Rattle.rules.proofs.Numbered.{answered_ok, answered_err}
+use Rattle.rules.proofs.Numbered.{handed_on, answered_err}
 use Rattle.account.specs.State.{state_on}
 use Rattle.account.specs.Post.{refusal_at, receipt_at, answer_at}
-use Rattle.account.specs.Looks.{offer_of}
+use Rattle.account.proofs.Exits.{refused_first, refused_rest, passed_rest}
 use Rattle.account.proofs.would.answer.Goals as goal
+
+pub returns-in_err-check_event : goal.returns-in_err-check_event
+unfolding answer_at
+returns-in_err-check_event c =
+    let left = handed_on _ c.from_residual.ensures.1 in
+    let s = state_on c.args.account.words.now in
+    let e = c.args.e in
+    rw left (refused_first s e _ (receipt_at s e) (rw c.last.ensures at c.in_err-check_event.ensures))
 
 pub returns-in_err-ask : goal.returns-in_err-ask
 unfolding answer_at
 returns-in_err-ask c =
-    let p = err_from_is_err_and c.from_residual.result c.from_residual.ensures.1 in
-    let s = state_on c.args.m.now in
+    let left = handed_on _ c.from_residual-in_err-ask.ensures.1 in
+    let s = state_on c.args.account.words.now in
     let e = c.args.e in
-    rw (p.1, p.2) (answered_err (refusal_at s e) _ _ (receipt_at s e) c.in_err-ask.ensures).1
+    rw left (refused_rest s e _ _ (receipt_at s e) (rw c.last.ensures at c.in_ok-check_event.ensures.1) c.in_err-ask.ensures)
 
 pub returns : goal.returns
 unfolding answer_at
 returns c =
-    let s = state_on c.args.m.now in
+    let s = state_on c.args.account.words.now in
     let e = c.args.e in
-    let q = answered_ok (refusal_at s e) _ (offer_of s e) c.in_ok-ask.ensures in
-    rw (q.0, c.receipt.ensures)
+    rw (passed_rest s e _ _ (rw c.last.ensures at c.in_ok-check_event.ensures.1) c.in_ok-ask.ensures, c.receipt.ensures)

@@ -8,10 +8,10 @@ use Rattle.arrangement.proofs.Arrangement.after.Goals.{then-is, else-is}
 pub overflow_add-paid : goal.overflow_add-paid
 overflow_add-paid c =
     let q = c.requires in
-    let e = c.args.e in
+    let e = c.args.posted.event in
     elim c.if-is.branch [
       | then-is w ↦
           let z = eqb-true e.kind payment (sym c.is.ensures ∙ w.if-is.true) in
-          omega (arith, w.paid-is, q.arrangement_fit.paid_le, (ranged payment e q.well_formed.fields_fit z).amount_high)
+          omega (arith, w.paid-is, q.arrangement_fit.paid_le, (ranged payment e c.args.posted.well_formed.fields_fit z).amount_high)
       | else-is w ↦ omega (arith, w.paid-is, q.arrangement_fit.paid_le)
     ]

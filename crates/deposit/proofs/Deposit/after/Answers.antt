@@ -7,10 +7,10 @@ use Rattle.deposit.proofs.Deposit.after.Goals.{then-paid, else-paid}
 
 pub overflow_add-held : goal.overflow_add-held
 overflow_add-held c =
-    let e = c.args.e in
+    let e = c.args.posted.event in
     elim c.if-paid.branch [
       | then-paid w ↦
           let z = eqb-true e.kind deposit_paid (sym c.is-paid.ensures ∙ w.if-paid.true) in
-          omega (arith, w.held-is, (ranged deposit_paid e c.requires.well_formed.fields_fit z).amount_high)
+          omega (arith, w.held-is, (ranged deposit_paid e c.args.posted.well_formed.fields_fit z).amount_high)
       | else-paid w ↦ omega (arith, w.held-is)
     ]

@@ -1,12 +1,13 @@
-// Memory that is known to be an account, by one test of it, and the parts that the questions read.
-#![tactic(auto)]
-
-ghost use Rattle.std.specs.Prelude.{◌≡◌, true, false, Err, length, MatchResult};
+// Memory that is known to be an account, and the parts that are read of it. Where an account is changed it stays a slice with a
+// clause: between the money and the day of one event its words are no account, so no type could lend them on.
+ghost use Rattle.std.specs.Prelude.{◌≡◌, true, false, length, MatchResult};
 ghost use Rattle.rules.specs.declared.refusals.Refusal.TheVariants.{NoAccount};
+ghost use Rattle.receipts.specs.Receipts.{receipts_on, receipts_size};
 ghost use Rattle.ledger.specs.Ledger.{ledger_on, ledger_size};
-ghost use Rattle.account.specs.State.{state_on, passes, Fit};
+ghost use Rattle.account.specs.State.{state_on, passes as is_account, Fit};
 
-use account::spans::{ARRANGEMENT, COLLECTION, DEPOSIT, LAST, LEDGER, MEDICAL, RECEIPTS, WORDS};
+use crate::passes;
+use crate::spans::{ARRANGEMENT, COLLECTION, DEPOSIT, LAST, LEDGER, MEDICAL, RECEIPTS, WORDS};
 use arrangement::Arrangement;
 use collection::Collection;
 use deposit::Deposit;
@@ -16,33 +17,23 @@ use span::Part;
 
 #[derive(Clone, Copy)]
 pub struct Known<'a> {
-    words: &'a [u64],
-    ghost passed: { passes words.now ≡ true },
+    pub words: &'a [u64],
     ghost fit: { Fit words.now },
 }
 
 impl<'a> Known<'a> {
-    ghost use Rattle.questions.specs.Questions.{day_refusal_by, told_on};
-
+    // By one test of the memory.
+    #[tactic(auto, using(crate::proofs::Exits::passed_fit))]
     pub fn of(m: &'a [u64]) -> Result<Known<'a>, Refusal>
-        ensures { MatchResult result (λ a. a.words.now ≡ m.now) (λ r. (passes m.now ≡ false) × (r ≡ NoAccount)) }
+        ensures { MatchResult result
+            (λ a. (a.words.now ≡ m.now) × (is_account m.now ≡ true))
+            (λ r. (is_account m.now ≡ false) × (r ≡ NoAccount)) }
     {
-        if account::passes(m) {
+        if passes(m) {
             Ok(Known { words: m })
         } else {
             Err(Refusal::NoAccount)
         }
-    }
-
-    // Asked for day t, which is refused with 1 or 2 as an event is.
-    pub fn on_day(m: &'a [u64], t: u32) -> Result<Known<'a>, Refusal>
-        ensures { MatchResult result
-            (λ a. (a.words.now ≡ m.now) × (day_refusal_by (state_on m.now) t ≡ 0))
-            (λ r. Err r ≡ told_on m.now t (λ s. s.last)) }
-    {
-        let account = Known::of(m)?;
-        range::check_day(account.last(), u64::from(t))?;
-        Ok(account)
     }
 
     // The day of the last accepted event.
@@ -74,6 +65,13 @@ impl<'a> Known<'a> {
         ensures { result ≡ (state_on self.entry.words.now).arrangement }
     {
         Arrangement::load(&self.words[ARRANGEMENT..RECEIPTS])
+    }
+
+    pub(crate) fn receipts(self) -> &'a [u64]
+        ensures size { length result.now ≡ receipts_size }
+        ensures words { receipts_on result.now ≡ (state_on self.entry.words.now).receipts }
+    {
+        &self.words[RECEIPTS..LEDGER]
     }
 
     pub fn ledger(self) -> &'a [u64]
