@@ -56,10 +56,6 @@ module _ (m : List ℕ) where
   unfolding passes
   passes_yes l = rw (eq-eqb (length m) account_size l)
 
-  pub passes_no : (length m ≡ account_size → ⊥) → false ≡ passes m
-  unfolding passes
-  passes_no l = rw (ne_eqb (length m) account_size l)
-
   pub passed_size : passes m ≡ true → length m ≡ account_size
   unfolding passes
   passed_size e = eqb-true (length m) account_size (and_parts (eqb (length m) account_size) (state_ok (state_on m)) e).0

@@ -91,6 +91,3 @@ pub leaves_at : (i w : ℕ) (all ys : List ℕ) (e : Event) (r : Answer) → w �
 leaves_at i w all ys e r z h a b =
     let q = le-leb (i * account_size + account_size) (length all) h in
     rw z (record { answer_is = rw q (rw z at a); words_are = rw q (ap (λ x. put (i * account_size) account_size x all) (rw z at b)) })
-
-pub leaves_none : (i : ℕ) (all : List ℕ) (e : Event) → length all < i * account_size + account_size → LeavesAt i all e (Err NoAccount) all
-leaves_none i all e h = let q = lt-leb (i * account_size + account_size) (length all) h in record { answer_is = rw q; words_are = rw q }

@@ -89,13 +89,6 @@ pub bill_amount : (s : State) (e : Event) → e.kind ≡ bill → min (e.amount 
 unfolding view
 bill_amount s e z = simp z (omega arith)
 
-pub fee_amount : (s : State) (e : Event) → only_item e ≡ true → (e.kind ≡ bill → ⊥) → fee_of e.option ≤ largest
-    → fee_of e.option ≡ min (charge_of (view s e) e) largest
-fee_amount s e o n l =
-    let z : e.kind ≡ fee = eqb-true e.kind fee (rw (ne_eqb e.kind bill n) at o) in
-    let y : fee_of e.option ≡ charge_of (view s e) e = simp z (omega arith) in
-    omega (arith, y, l)
-
 -- ---- kinds below 5 concern neither the deposit nor a certificate
 low : (e : Event) (k : ℕ) → e.kind < deposit_asked → deposit_asked ≤ k → eqb e.kind k ≡ false
 low e k l h = ne_eqb e.kind k (λ z. absurd (omega (arith, z)))
@@ -122,26 +115,12 @@ pub way_is : (m a c : List ℕ) (e : Event) (v : View) → e.kind < deposit_aske
 way_is m a c e v l p q = steps_are m a a c e v p (record { words_are = p.words_are; state_is = sym (file_still (state_on a) e l) }) q
 
 -- ---- the day and the notice
-quiet_same : (c : Collection) (e : Event) (n : ℕ) → e.kind < deposit_asked → c.notice.live ≡ 0 → c ≡ collection_after c e n
-quiet_same c e n l z =
-    let y : c.notice.live ≡ cond (eqb c.notice.live 1 && leb enough n) 1 0 = rw z in
-    (λ i. record { service = c.service; notice = record { day = c.notice.day; live = y i }; calls = c.calls })
-    ∙ sym (collection_other c e n (omega (arith, l)))
-
 module _ (m : List ℕ) (l : length m ≡ account_size) (e : Event) (k : e.kind < deposit_asked) (ys : List ℕ) (q : ys ≡ e.day ∷ []) where
   collection_still : part sizes 2 (back sizes 1 ys m) ≡ part sizes 2 m
   collection_still = ap (λ cs. get_or cs 2 []) (then sizes 1 ys (omega arith) (ap length q) (here sizes m l)).cuts
 
   ledger_still : part sizes 7 (back sizes 1 ys m) ≡ part sizes 7 m
   ledger_still = ap (λ cs. get_or cs 7 []) (then sizes 1 ys (omega arith) (ap length q) (here sizes m l)).cuts
-
-  -- a notice that lives no more stays so
-  pub quiet_by_lem : eqb (collection_on (part sizes 2 (back sizes 1 ys m))).notice.live 0 ≡ true → Became (back sizes 1 ys m) (service_after (state_on m) e)
-  quiet_by_lem n =
-      let t = then sizes 1 ys (omega arith) (ap length q) (here sizes m l) in
-      let none : (state_on m).collection.notice.live ≡ 0 = eqb-true _ 0 (sym (ap (λ w. eqb (collection_on w).notice.live 0) collection_still) ∙ n) in
-      let same = quiet_same (state_on m).collection e (arrears_by (state_on m).ledger e.day) k none in
-      record { words_are = t.words_are; state_is = ap state_of t.cuts ∙ (λ i. with_service (state_on m) (get_or (q i) 0 0) (same i)) }
 
   pub lapse_by : (ws : List ℕ) (due : ℕ) → length ws ≡ collection_size
       → due ≡ arrears_by (ledger_on (part sizes 7 (back sizes 1 ys m))) e.day

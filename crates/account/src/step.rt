@@ -1,4 +1,5 @@
-// An account after an event that is accepted: each part is lent its span and steps in place.
+// An account after an event that is accepted: each part is lent its span and steps in place. The spans are cut here and in `ways`,
+// where each is lent: a type that holds an account could not lend a part of it on and say that the others stay.
 ghost use Rattle.std.specs.Prelude.{◌≡◌, length};
 ghost use Rattle.deposit.specs.Deposit.{DepositFit};
 ghost use Rattle.account.specs.State.{account_size, state_on, money_after, file_after, service_after};

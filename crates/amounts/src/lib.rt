@@ -24,7 +24,8 @@ pub fn charges(e: Event) -> bool
     )
 }
 
-// The amount of the item that the event makes, 0 where it makes none; the largest number where the amount is more.
+// The amount of the item that the event makes, 0 where it makes none, since the table adds it to what was charged; the largest
+// number where the amount is more.
 pub fn charge(v: View, e: Event) -> u64
     ensures { result ≡ min (charge_of v e) largest }
 {

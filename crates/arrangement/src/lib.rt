@@ -22,7 +22,7 @@ const PAID: usize = 3;
 
 const RETURNED: usize = 4;
 
-// Where there is none, all is 0: an arrangement in no parts is in force on no day.
+// Where there is none, all is 0: these are words of memory, whose layout is fixed, and an arrangement in no parts is in force on no day.
 #[derive(Clone, Copy)]
 pub struct Arrangement {
     pub day: u64,

@@ -15,7 +15,7 @@ use bookformat::{RECORD, accounts, base, event_at, records};
 use little::get;
 use rules::refusals::Refusal;
 
-// Memory lent for an account list: how many records each account has, and a slice for each field of the records.
+// Memory lent for an account list, five slices as C lends them: how many records each account has, and a slice for each field of the records.
 #[derive(Drop)]
 pub struct LentMemory<'a> {
     pub counts: &'a mut [u32],

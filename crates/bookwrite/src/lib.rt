@@ -1,4 +1,5 @@
-// Books written from lent memory. All is tested before the first byte is stored; then one pass stores the book.
+// Books written from lent memory. All is tested before the first byte is stored; then one pass stores the book. What stores takes
+// the output and a place: a struct of both would be lent again at each number, under the same clause.
 #![tactic(auto)]
 
 ghost use Rattle.std.specs.Prelude.{◌≡◌, [], ◌∷◌, ◌++◌, ◌+◌, ◌*◌, ◌<◌, ◌≤◌, length};

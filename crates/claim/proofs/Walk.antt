@@ -36,9 +36,6 @@ module _ (past : List Event) (m : List ℕ) (r : ℕ) (w : Walked past m r) wher
   pub walked_passes : passes m ≡ true
   walked_passes = rw w.at (demand_3 past).passing
 
-  pub walked_size : length m ≡ account_size
-  walked_size = passed_size m walked_passes
-
   pub walked_fit : Fit m
   walked_fit = passed_fit m walked_passes
 

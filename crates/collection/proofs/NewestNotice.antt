@@ -48,10 +48,6 @@ mark : (b : Bool) → eqb (cond b 1 0) 1 ≡ b
 mark true = refl
 mark false = refl
 
-pub mark_in : (b : Bool) → cond b 1 0 ≤ 1
-mark_in true = omega arith
-mark_in false = omega arith
-
 -- one event, without lists: a new notice where n, else the one kept
 step : (n a b s live : Bool) (W : ℕ → Bool) (d day : ℕ) → (n ≡ true → s ≡ false) → s ≡ (live && W day)
     → ((((n && W d) || s) && a) && b) ≡ ((((n || live) && a) && b) && W (cond n d day))

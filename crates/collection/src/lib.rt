@@ -41,8 +41,9 @@ pub struct Notice {
     pub live: u64,
 }
 
-// The day after the last call, and the day after the last call on an earlier day; 0 for none. A disconnection on a day can
-// ask for no other: a call on the day itself does not count, and an older one is further back.
+// The day after the last call, and the day after the last call on an earlier day; 0 for none: both are words of memory, whose
+// layout is fixed. A disconnection on a day can ask for no other: a call on the day itself does not count, and an older one is
+// further back.
 #[derive(Clone, Copy)]
 pub struct Calls {
     pub last: u64,

@@ -17,6 +17,7 @@ use Rattle.rules.specs.Accepted.{view_of, Lawful}
 use Rattle.rules.proofs.Sums.{total_since, newest_since}
 use Rattle.rules.proofs.Ranged.{ranged}
 use Rattle.rules.proofs.Passed.{Passed, passed}
+use Rattle.rules.proofs.Bounds.{asked_over, paid_within}
 
 -- the day of the newest deposit paid, 0 for none
 abbrev pub paid_on : History → ℕ
@@ -26,13 +27,6 @@ paid_on (e ∷ h) = cond (is deposit_paid e) e.day (paid_on h)
 pub paid_in : (h : History) → Lawful h → paid_on h ≤ final_day
 paid_in [] w = zero-le
 paid_in (e ∷ h) w = on (is deposit_paid e) (λ q. rw q (passed h e w.0).in_time) (λ q. rw q (paid_in h w.1))
-
--- ---- row 7
-asked_over : (v : View) (e : Event) → row7 v e ≡ false → e.kind ≡ deposit_asked → v.held < e.amount
-asked_over v e r z = grind arith
-
-paid_within : (v : View) (e : Event) → row7 v e ≡ false → e.kind ≡ deposit_paid → e.amount ≤ v.required - v.held
-paid_within v e r z = grind arith
 
 -- ---- what full says
 record Full (h : History) : Type 0 where

@@ -6,9 +6,9 @@ ghost use Rattle.std.specs.Prelude.{◌≡◌, length};
 ghost use Rattle.deposit.specs.Deposit.{is_full, deposit_after, concerns, deposit_ok, DepositFit, earned_by, deposit_size, deposit_on};
 ghost use Rattle.deposit.specs.Conduct.{conduct_after, in_year_by, quiet_by, conduct_ok};
 
-use rules::{Event, InRange};
 use rules::kinds::Kind;
 use rules::limits::{FINAL_DAY, MOST_DEPOSIT, YEAR};
+use rules::{Event, InRange};
 use span::Part;
 
 // The words, one after the other.
@@ -29,8 +29,8 @@ const CUT: usize = 6;
 // From the day after an event to the last of the 365 days in which it bars a return.
 const BARS_FOR: u64 = YEAR - 2;
 
-// The days after the three newest final notices, newest first, and the day after the newest disconnection; 0 for none.
-// A third notice within the year is one too many, so older ones are never asked for.
+// The days after the three newest final notices, newest first, and the day after the newest disconnection; 0 for none: all are
+// words of memory, whose layout is fixed. A third notice within the year is one too many, so older ones are never asked for.
 #[derive(Clone, Copy)]
 pub struct Conduct {
     pub first: u64,

@@ -64,7 +64,7 @@ pub extern "C" fn hollupaq_book_read(
 }
 
 // Writes the book of an account list: 256 and its length, and longer output keeps its tail; or 20, 21 or 22, and the output
-// stays as it was.
+// stays as it was. A match here too: a closure would ask that the sizes passed, which has no name there.
 #[unsafe(no_mangle)]
 pub extern "C" fn hollupaq_book_write(
     counts: &[u32],

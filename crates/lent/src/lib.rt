@@ -18,7 +18,8 @@ pub fn post_lent(a: &mut Account, e: Event) -> Answer
     p.answer
 }
 
-// The same for a caller that holds the account by value: it is lent for the one posting and comes back as that left it.
+// The same for a caller that holds the account by value: it is lent for the one posting and comes back as that left it. Beside
+// `Account::post`, since each promises of its own way of holding an account that nothing else is changed.
 pub fn post_through(a: Account, e: Event) -> Posted
     ensures { result ≡ posted a e }
 {

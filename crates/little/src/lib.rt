@@ -1,4 +1,5 @@
-// Numbers in bytes, the lowest byte first, of any width up to 8 bytes: read from a slice and stored into one.
+// Numbers in bytes, the lowest byte first, of any width up to 8 bytes: read from a slice and stored into one. The library's
+// `from_le_bytes` and `to_le_bytes` are of each type by itself, and here is one law over the width.
 #![tactic(auto)]
 
 ghost use Rattle.std.specs.Prelude.{◌≡◌, ◌+◌, ◌<◌, ◌≤◌, length};

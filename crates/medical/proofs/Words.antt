@@ -15,9 +15,6 @@ use Rattle.medical.specs.Medical.{medical_size, medical_on, medical_words, medic
 pub medical_whole : (w : List ℕ) → length w ≡ medical_size → medical_words (medical_on w) ≡ w
 medical_whole w l = sym (whole medical_size w l)
 
-no_later : (a : ℕ) → a ≡ max a 0
-no_later a = omega arith
-
 -- an event of another kind leaves the part as it is
 pub untouched : (m : Medical) (e : Event) → (is certificate e || is approval e) ≡ false → m ≡ medical_after m e
 untouched m e f = grind arith

@@ -5,9 +5,9 @@ ghost use Rattle.std.specs.Prelude.{◌≡◌, true, cond, ◌+◌, ◌≤◌, l
 ghost use Rattle.rules.specs.Limits.{certificate_days};
 ghost use Rattle.medical.specs.Medical.{medical_size, medical_on, medical_after, certified_by, approved_by, medical_ok};
 
-use rules::{Event, InRange};
 use rules::kinds::Kind;
 use rules::limits::{APPROVAL_DAYS, CERTIFICATE_DAYS, FINAL_DAY};
+use rules::{Event, InRange};
 use span::Part;
 
 const CERTIFIED_TO: usize = 0;
@@ -20,7 +20,7 @@ const LAST_CERTIFIED: u64 = FINAL_DAY + CERTIFICATE_DAYS;
 const LAST_APPROVED: u64 = FINAL_DAY + APPROVAL_DAYS;
 
 // The day past the end of the certificate that ends last, and of the approval that ends last among those posted after the
-// newest certificate; 0 for none. No later day can ask for more.
+// newest certificate; 0 for none: both are words of memory, whose layout is fixed. No later day can ask for more.
 #[derive(Clone, Copy)]
 pub struct Medical {
     pub certified_to: u64,

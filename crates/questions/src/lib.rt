@@ -7,8 +7,8 @@ ghost use Rattle.std.specs.Prelude.{◌≡◌, get_or};
 ghost use Rattle.ledger.specs.Ledger.{no_item};
 ghost use Rattle.questions.specs.Questions.{owed_in, held_in, required_in, service_in, open_in, count_in};
 
-pub use days::{arrears, certified, in_force, notice_live};
 use account::known::Known;
+pub use days::{arrears, certified, in_force, notice_live};
 use ledger::OpenItem;
 use rules::Service;
 

@@ -52,11 +52,8 @@ fn fields_of(kind: Kind) -> Fields
         Kind::Approval => amount_to(APPROVAL_DAYS),
         Kind::Arrangement => option_in(LEAST_PARTS, MOST_PARTS),
         Kind::Reconnection => option_in(0, 1),
-        Kind::DepositMoved
-        | Kind::FinalNotice
-        | Kind::Call
-        | Kind::Disconnection
-        | Kind::Closing => option_in(0, 0),
+        Kind::DepositMoved | Kind::FinalNotice | Kind::Call | Kind::Disconnection | Kind::Closing =>
+            option_in(0, 0),
     }
 }
 

@@ -1,6 +1,6 @@
 // Receipts, as an account keeps them in 33 words of its memory: how many payments were accepted, and the amounts of the newest
 // 32. The payment of receipt r stands at place r mod 32: a payment takes the place of the one 32 before it. 0, which no payment
-// is, where it was returned or there is none.
+// is, where it was returned or there is none: the layout of memory is fixed, so what is read stays that word.
 #![tactic(auto)]
 
 ghost use Rattle.std.specs.Prelude.{◌≡◌, cond, ◌+◌, ◌%◌, length};

@@ -9,21 +9,17 @@ ghost use Rattle.rules.specs.Accepted.{accepted};
 ghost use Rattle.bookformat.specs.Book.{accounts, decode};
 ghost use Rattle.bookformat.specs.Finding.{book_account};
 ghost use Rattle.text.specs.Put.{Put};
-ghost use Rattle.account.specs.State.{account_size};
 ghost use Rattle.report.specs.Standing.{Stands, standing_on};
 ghost use Rattle.report.specs.Report.{longest_line, line_of, lines_of, listing, refused_text, input_text, WroteText, Reported};
 
-use account::spans::{COLLECTION, DEPOSIT, LEDGER, MEDICAL};
-use account::{Account, WORDS};
+use account::Account;
+use account::known::Known;
 use book::Book;
 use bookformat::MOST_ACCOUNTS;
 use bookpost::run_account;
-use collection::Collection;
-use deposit::Deposit;
 use line::put_line;
 use rules::Service;
 use rules::refusals::Refusal;
-use span::Part;
 use text::{put_bytes, put_number, width};
 
 // The longest file that the program reads.
@@ -53,29 +49,30 @@ pub struct Standing {
 // The first line.
 const HEADING: [u8; FIRST_LINE] = *b"account owed held open service refused\n";
 
-// Where the account in memory m stands, of whose records so many were refused.
-fn standing_in(m: &[u64], refused: u64) -> Standing
-    requires { length m.now ≡ account_size }
-    ensures { result ≡ standing_on m.now refused }
+// Where an account stands, of whose records so many were refused.
+fn standing_in(account: Known, refused: u64) -> Standing
+    ensures { result ≡ standing_on account.entry.words.now refused }
 {
-    let s = ledger::sums_of(&m[LEDGER..WORDS]);
+    let s = ledger::sums_of(account.ledger());
     Standing {
         charged: s.charged,
         credits: s.credits,
-        held: Deposit::load(&m[DEPOSIT..MEDICAL]).held,
+        held: account.deposit().held,
         open_count: s.open_count,
-        service: Collection::load(&m[COLLECTION..DEPOSIT]).service(),
+        service: account.collection().service(),
         refused,
     }
 }
 
 // Where account i of a book stands: it is posted in memory of this function's own.
+#[tactic(auto, using(account::proofs::Exits::passed_fit))]
 fn standing_of(book: Book, i: usize) -> Standing
     ensures { let es = book_account book.entry.bytes.now i in Stands result es (accepted es) }
 {
     let mut memory = Account::fresh().memory;
     let refused = run_account(book, i, &mut memory);
-    standing_in(&memory, refused)
+    let account = Known { words: &memory };
+    standing_in(account, refused)
 }
 
 // Stores the line of account i, and says where the text goes on.

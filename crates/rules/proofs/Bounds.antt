@@ -81,10 +81,10 @@ charge_above h e r c =
     (λ v _. absurd (true≢false (sym c ∙ simp (p, q, s, u, v))))))))
 
 -- ---- the deposit
-asked_over : (v : View) (e : Event) → row7 v e ≡ false → e.kind ≡ deposit_asked → v.held < e.amount
+pub asked_over : (v : View) (e : Event) → row7 v e ≡ false → e.kind ≡ deposit_asked → v.held < e.amount
 asked_over v e r z = leb-false e.amount v.held (simp (z, or-false) at r)
 
-paid_within : (v : View) (e : Event) → row7 v e ≡ false → e.kind ≡ deposit_paid → e.amount ≤ v.required - v.held
+pub paid_within : (v : View) (e : Event) → row7 v e ≡ false → e.kind ≡ deposit_paid → e.amount ≤ v.required - v.held
 paid_within v e r z = ltb-false (v.required - v.held) e.amount (simp (z, or-false) at r)
 
 pub record Held (h : History) : Type 0 where
@@ -158,16 +158,6 @@ payments_above (e ∷ h) w =
     on_eq e.kind payment
     (λ q z. rw (q, lt-ltb 0 e.amount (ranged payment e (passed h e w.0).fields_fit z).amount_low) ih)
     (λ q z. rw q ih)
-
-pub known_is : (h : History) → Lawful h → (r : ℕ) → known h r ≡ ltb 0 (returnable h r)
-known_is h w r =
-    let n = length (payments h) in
-    on (known h r)
-    (λ k.
-    let b = (and_parts (within 1 n r && ltb (n - r) known_receipts) _ k).0 in
-    let v = within_true 1 n r (and_parts (within 1 n r) _ b).0 in
-    rw (k, every_in (ltb 0) (payments h) (n - r) 0 (omega arith) (payments_above h w)))
-    (λ k. rw k)
 
 -- ---- the arrangement
 pub debt_limit : (h : History) → Lawful h → (terms h).debt ≤ limit

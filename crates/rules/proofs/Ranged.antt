@@ -28,7 +28,3 @@ fitting f e r =
 pub ranged : (k : ℕ) (e : Event) → in_range e ≡ true → e.kind ≡ k → Within (get_or fields k unknown) e
 unfolding in_range
 ranged k e r z = fitting (get_or fields k unknown) e (subst (λ n. fits (get_or fields n unknown) e ≡ true) z r)
-
--- the amount that an event of kind k brings, 0 of any other
-pub amount_if_lem : (k : ℕ) (e : Event) → in_range e ≡ true → amount_if k e ≤ (get_or fields k unknown).amount_to
-amount_if_lem k e r = at_most (is k e) e.amount _ (λ q. (ranged k e r (eqb-true e.kind k q)).amount_high)

@@ -41,24 +41,25 @@ fn from_row5(v: View, e: Event, charge: u64) -> Result<(), Refusal>
     requires { charge ≡ min (charge_of v e) largest }
     ensures { result ≡ answered (from_row5 v e) tt }
 {
-    match Kind::try_from(e.kind) {
-        // Two arms alike: an or-pattern under Ok leaves open to the check which kind it was.
-        Ok(Kind::Bill) => arms::item_rows(v.open_count, v.charged, charge),
-        Ok(Kind::Fee) => arms::item_rows(v.open_count, v.charged, charge),
-        Ok(Kind::Payment) => arms::credit_rows(v.credited, e.amount),
-        Ok(Kind::ReturnedPayment) => arms::returned_rows(v, charge),
-        Ok(Kind::DepositAsked) => Refusal::WrongSum.when(e.amount <= v.held),
-        Ok(Kind::DepositPaid) => arms::over_row(v.required, v.held, e.amount),
-        Ok(Kind::DepositMoved) => arms::moved_rows(v),
-        Ok(Kind::Payout) => arms::over_row(v.credits, v.charged, e.amount),
-        Ok(Kind::Arrangement) => Refusal::NothingToArrange.when((v.arrears == 0) | v.in_force),
-        Ok(Kind::FinalNotice) => arms::notice_rows(v, charge),
-        Ok(Kind::Call) => arms::call_row(v),
-        Ok(Kind::Disconnection) => arms::cut_rows(v),
-        Ok(Kind::Reconnection) => arms::reconnection_rows(v, charge),
-        Ok(Kind::Closing) => arms::credit_rows(v.credited, v.held),
-        Ok(Kind::Certificate) | Ok(Kind::Approval) => Ok(()),
-        Err(_) => Ok(()),
+    let Ok(kind) = Kind::try_from(e.kind) else {
+        return Ok(());
+    };
+    // A match, and no table of closures: each arm is one call, and names it.
+    match kind {
+        Kind::Bill | Kind::Fee => arms::item_rows(v.open_count, v.charged, charge),
+        Kind::Payment => arms::credit_rows(v.credited, e.amount),
+        Kind::ReturnedPayment => arms::returned_rows(v, charge),
+        Kind::DepositAsked => Refusal::WrongSum.when(e.amount <= v.held),
+        Kind::DepositPaid => arms::over_row(v.required, v.held, e.amount),
+        Kind::DepositMoved => arms::moved_rows(v),
+        Kind::Payout => arms::over_row(v.credits, v.charged, e.amount),
+        Kind::Arrangement => Refusal::NothingToArrange.when((v.arrears == 0) | v.in_force),
+        Kind::FinalNotice => arms::notice_rows(v, charge),
+        Kind::Call => arms::call_row(v),
+        Kind::Disconnection => arms::cut_rows(v),
+        Kind::Reconnection => arms::reconnection_rows(v, charge),
+        Kind::Closing => arms::credit_rows(v.credited, v.held),
+        Kind::Certificate | Kind::Approval => Ok(()),
     }
 }
 

@@ -31,25 +31,52 @@ const SCHEDULES: [Schedule; CLASSES] = [
     Schedule {
         basic_charge: 1_031,
         blocks: [
-            Block { limit: 15_000, price: 731 },
-            Block { limit: 50_000, price: 731 },
-            Block { limit: MOST_USAGE, price: 731 },
+            Block {
+                limit: 15_000,
+                price: 731,
+            },
+            Block {
+                limit: 50_000,
+                price: 731,
+            },
+            Block {
+                limit: MOST_USAGE,
+                price: 731,
+            },
         ],
     },
     Schedule {
         basic_charge: 1_229,
         blocks: [
-            Block { limit: 15_000, price: 767 },
-            Block { limit: 50_000, price: 767 },
-            Block { limit: MOST_USAGE, price: 767 },
+            Block {
+                limit: 15_000,
+                price: 767,
+            },
+            Block {
+                limit: 50_000,
+                price: 767,
+            },
+            Block {
+                limit: MOST_USAGE,
+                price: 767,
+            },
         ],
     },
     Schedule {
         basic_charge: 2_218,
         blocks: [
-            Block { limit: 15_000, price: 767 },
-            Block { limit: 50_000, price: 647 },
-            Block { limit: MOST_USAGE, price: 467 },
+            Block {
+                limit: 15_000,
+                price: 767,
+            },
+            Block {
+                limit: 50_000,
+                price: 647,
+            },
+            Block {
+                limit: MOST_USAGE,
+                price: 467,
+            },
         ],
     },
 ];
@@ -78,7 +105,9 @@ impl Schedule {
         }
     }
 
-    // The energy sum of a usage, in hundredths of a cent: line after line, its kilowatt-hours at its price.
+    // The energy sum of a usage, in hundredths of a cent: line after line, its kilowatt-hours at its price. A loop, which wants its
+    // invariant alone: as map and sum it wanted three answers by hand, that the closure may be called, that its products fit, and what
+    // they come to.
     #[tactic(auto, using(crate::proofs::Rows::lines_length, crate::proofs::Rows::length_of, std::proofs::lemmas::Grind::common_steps))]
     fn energy(self, usage: u64) -> u64
         requires { energy_by self.blocks usage ≤ largest }

@@ -50,10 +50,6 @@ put_then x y o o1 o2 p q r a b =
       end = omega (arith, a.end, b.end, length-append x y);
     }
 
--- room for both is room for each
-pub room_first : (x y o : List ℕ) (p : ℕ) → p + length (x ++ y) ≤ length o → p + length x ≤ length o
-room_first x y o p h = omega (arith, length-append x y)
-
 pub room_then : (x y o o1 : List ℕ) (p q : ℕ) → p + length (x ++ y) ≤ length o → Put x o o1 p q → q + length y ≤ length o1
 room_then x y o o1 p q h a = omega (arith, length-append x y, a.end, ap length a.bytes, length-sets o p x)
 
