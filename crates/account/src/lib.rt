@@ -61,7 +61,7 @@ fn judge_any(m: &mut [u64], e: Event) -> Answer
     let known = Known { words: m };
     let posted = range::check_event(known.last(), e)?;
     let offer = rows::ask(known, e)?;
-    Ok(step::apply(m, posted, offer.view, offer.charge))
+    Ok(step::apply(m, posted, offer))
 }
 
 // One event judged by the table, in memory that is known to be an account. What is refused changes nothing.

@@ -5,17 +5,19 @@ ghost use Rattle.deposit.specs.Deposit.{DepositFit};
 ghost use Rattle.account.specs.State.{account_size, state_on, money_after, file_after, service_after};
 ghost use Rattle.account.specs.Looks.{Became, Passing, Applied};
 
+use crate::rows::Offer;
 use crate::spans::{ARRANGEMENT, COLLECTION, DEPOSIT, LAST, LEDGER, MEDICAL, RECEIPTS, WORDS};
 use rules::kinds::Kind;
-use rules::{Event, InRange, View};
+use rules::{Event, InRange};
 
 // The money: ledger, receipts and arrangement.
-fn move_money(m: &mut [u64], posted: InRange, v: View, charge: u64)
-    requires { Passing m.old posted.event v charge }
-    ensures { Became m.new (money_after (state_on m.old) posted.event v) }
+fn move_money(m: &mut [u64], posted: InRange, offer: Offer)
+    requires { Passing m.old posted.event offer.view offer.charge }
+    ensures { Became m.new (money_after (state_on m.old) posted.event offer.view) }
 {
     let e = posted.event;
-    let item = amounts::charges(e).then_some(charge);
+    let v = offer.view;
+    let item = amounts::charges(e).then_some(offer.charge);
     let credit = amounts::credit(v, e);
     ledger::step(&mut m[LEDGER..WORDS], e, item, credit);
     receipts::step(&mut m[RECEIPTS..LEDGER], e);
@@ -44,12 +46,12 @@ fn set_service(m: &mut [u64], e: Event)
 }
 
 // The account after an event that passes; says the receipt of a payment, or 0.
-pub fn apply(m: &mut [u64], posted: InRange, v: View, charge: u64) -> u64
-    requires { Passing m.old posted.event v charge }
-    ensures { Applied m.old posted.event v m.new result }
+pub fn apply(m: &mut [u64], posted: InRange, offer: Offer) -> u64
+    requires { Passing m.old posted.event offer.view offer.charge }
+    ensures { Applied m.old posted.event offer.view m.new result }
 {
     let e = posted.event;
-    move_money(m, posted, v, charge);
+    move_money(m, posted, offer);
     keep_file(m, posted);
     set_service(m, e);
     let n = receipts::count(&m[RECEIPTS..LEDGER]);

@@ -161,7 +161,7 @@ impl Metered {
     }
 }
 
-// The bill of a class and a usage.
+// The bill of a class and a usage: here they come as C has them, and are tested.
 pub fn bill(class: u8, usage: u64) -> Result<u64, Refusal>
     ensures { result ≡ bill_of class usage }
 {

@@ -8,24 +8,24 @@ pub keep_file-requires : goal.keep_file-requires
 keep_file-requires c =
     let s = c in (
       c.move_money.ensures.words_are,
-      deposit_still s.args.m.now c.move_money.new.m s.args.posted.event s.args.v c.move_money.ensures
+      deposit_still s.args.m.now c.move_money.new.m s.args.posted.event s.args.offer.view c.move_money.ensures
           s.requires.fit.fit.deposit_fit,
     )
 
 pub returns-then-is : goal.returns-then-is
 returns-then-is c =
     let a = c.args in
-    let b = steps_are a.m.now c.move_money.new.m c.keep_file.new.m c.set_service.new.m a.posted.event a.v c.move_money.ensures
+    let b = steps_are a.m.now c.move_money.new.m c.keep_file.new.m c.set_service.new.m a.posted.event a.offer.view c.move_money.ensures
     c.keep_file.ensures c.set_service.ensures in
     let q = sym c.is.ensures ∙ c.if-is.true in
-    let r = receipt_by a.m.now c.set_service.new.m a.posted.event a.v c.count-n.result b c.count-n.ensures in
+    let r = receipt_by a.m.now c.set_service.new.m a.posted.event a.offer.view c.count-n.result b c.count-n.ensures in
     let y : cond (is payment a.posted.event) c.count-n.result 0 ≡ c.count-n.result = rw q in
     record { became = b; receipt_is = sym y ∙ r }
 
 pub returns-else-is : goal.returns-else-is
 returns-else-is c =
     let a = c.args in
-    let b = steps_are a.m.now c.move_money.new.m c.keep_file.new.m c.set_service.new.m a.posted.event a.v c.move_money.ensures
+    let b = steps_are a.m.now c.move_money.new.m c.keep_file.new.m c.set_service.new.m a.posted.event a.offer.view c.move_money.ensures
     c.keep_file.ensures c.set_service.ensures in
     let q = sym c.is.ensures ∙ c.if-is.false in
     record { became = b; receipt_is = rw q }
