@@ -114,16 +114,23 @@ pub free_of : {A : Type 0} (m : List ℕ) (e : Event) (x y : A) → Fit m → Ok
 free_of m e x y f q = record { fit = f; free = (answered_ok (refusal_by (view (state_on m) e) e) x y q).0 }
 
 pub passing_of : (m : List ℕ) (e : Event) → Fit m → refusal_by (view (state_on m) e) e ≡ 0
-    → Passing m e (offer_of (state_on m) e).view (offer_of (state_on m) e).charge
+    → Passing m e (offer_of (state_on m) e).view (offer_of (state_on m) e).item
 passing_of m e f z = record { fit = f; looked = refl; free = refusal_seen (view (state_on m) e) e ∙ z; charged = refl }
 
 -- ---- the exits of a judging
 module _ (m : List ℕ) (e : Event) where
-  pub judges_refused : {A : Type 0} (r : Refusal) (y : A) → Err r ≡ answered (refusal_at (state_on m) e) y → Judges m e (Err r) m
+  judges_refused : {A : Type 0} (r : Refusal) (y : A) → Err r ≡ answered (refusal_at (state_on m) e) y → Judges m e (Err r) m
   unfolding answer_at state_after
   judges_refused r y h =
       let g = answered_err (refusal_at (state_on m) e) r y (receipt_at (state_on m) e) h in
       record { answer_is = g.1; state_is = rw g.0 }
+
+  -- by rows 1 to 3, and by those after them
+  pub judges_first : (r : Refusal) → Err r ≡ answered (first (state_on m) e) done → Judges m e (Err r) m
+  judges_first r h = judges_refused r (receipt_at (state_on m) e) (refused_first (state_on m) e r (receipt_at (state_on m) e) h)
+
+  pub judges_rest : {A : Type 0} (r : Refusal) (x : A) → first (state_on m) e ≡ 0 → Err r ≡ answered (refusal_by (view (state_on m) e) e) x → Judges m e (Err r) m
+  judges_rest r x h q = judges_refused r (receipt_at (state_on m) e) (refused_rest (state_on m) e r x (receipt_at (state_on m) e) h q)
 
   pub judges_accepted : (r : ℕ) (k : List ℕ) → refusal_at (state_on m) e ≡ 0 → Applied m e (view (state_on m) e) k r → Judges m e (Ok r) k
   unfolding answer_at state_after

@@ -4,6 +4,9 @@ use mathlib.Core.Path.{◌≡◌, refl, sym, ap, subst, ◌∙◌}
 use mathlib.Core.Bool.{cond}
 use mathlib.Core.List.{List, [], ◌∷◌}
 use native.Mathlib.Omega.{arith}
+use Rattle.std.specs.Prelude.{Option, min}
+use Rattle.std.specs.Bool.{then_some}
+use Rattle.basics.specs.Machine.{largest}
 use lib.ListN.{length, get_or}
 use Rattle.basics.proofs.Cases.{on}
 use Rattle.span.proofs.Parts.{part, back, here, then}
@@ -31,14 +34,16 @@ use Rattle.account.specs.Post.{receipt_at}
 use Rattle.account.specs.Looks.{Became, Passing}
 
 -- ---- an event that passes has room
-module _ (m : List ℕ) (e : Event) (v : View) (n : ℕ) (p : Passing m e v n) where
+module _ (m : List ℕ) (e : Event) (v : View) (item : Option ℕ) (p : Passing m e v item) where
   pub passing_room : Room v e
   unfolding view
   passing_room = room v e (allowed v e p.free) (rw p.looked p.fit.fit.ledger_fit.charged_le) (rw p.looked p.fit.fit.ledger_fit.credited_le)
 
   -- the charge is no more than the machine's largest number
-  pub charge_exact : n ≡ charge_of v e
-  charge_exact = omega (arith, p.charged, passing_room.charged_room)
+  pub item_exact : item ≡ then_some (charges e) (charge_of v e)
+  item_exact =
+      let exact : min (charge_of v e) largest ≡ charge_of v e = omega (arith, passing_room.charged_room) in
+      p.charged ∙ ap (then_some (charges e)) exact
 
   pub money_room : LedgerRoom (state_on m).ledger e (charges e) (charge_of v e) (credit_of v e)
   unfolding view

@@ -1,11 +1,13 @@
 -- What the code of one posting works with: what it reads of an account, and what its steps ask and leave.
-use Rattle.std.specs.Prelude.{ℕ, min, ◌≡◌, Bool, false, cond, ◌&&◌, ◌||◌, List, length}
+use Rattle.std.specs.Prelude.{ℕ, Option, min, ◌≡◌, Bool, false, cond, ◌&&◌, ◌||◌, List, length}
+use Rattle.std.specs.Bool.{then_some}
 use Rattle.basics.specs.Machine.{largest}
 use Rattle.rules.specs.declared.Event.{Event}
 use Rattle.rules.specs.declared.View.{View}
 use Rattle.rules.specs.declared.Service.{Service}
 use Rattle.rules.specs.Kinds.{bill, returned_payment, fee, deposit_moved}
 use Rattle.rules.specs.History.{is}
+use Rattle.rules.specs.Money.{charges}
 use Rattle.rules.specs.Table.{charge_of, refusal_by}
 use Rattle.table.specs.Seen.{looks_at_debt, seen_of}
 use Rattle.collection.specs.Collection.{live_by, in_days_by, called_by}
@@ -78,16 +80,20 @@ pub record Became (m : List ℕ) (s : State) : Type 0 where
   pub words_are : length m ≡ account_size
   pub state_is : state_on m ≡ s
 
--- e passes: v is what its kind looks at, no row refuses, and charge is what it charges
-pub record Passing (m : List ℕ) (e : Event) (v : View) (charge : ℕ) : Type 0 where
+-- the amount of the item that e makes, if it makes one
+abbrev pub item_of : View → Event → Option ℕ
+item_of v e = then_some (charges e) (min (charge_of v e) largest)
+
+-- e passes: v is what its kind looks at, no row refuses, and the item that it makes, if it makes one, is of what it charges
+pub record Passing (m : List ℕ) (e : Event) (v : View) (item : Option ℕ) : Type 0 where
   pub fit : Fit m
   pub looked : v ≡ seen_of (view (state_on m) e) e
   pub free : refusal_by v e ≡ 0
-  pub charged : charge ≡ min (charge_of v e) largest
+  pub charged : item ≡ item_of v e
 
--- what the rows look at when e is offered, and what it charges
+-- what the rows look at when e is offered, and the item that it makes
 abbrev pub offer_of : State → Event → Offer
-offer_of s e = record { view = seen_of (view s e) e; charge = min (charge_of (seen_of (view s e) e) e) largest }
+offer_of s e = record { view = seen_of (view s e) e; item = item_of (seen_of (view s e) e) e }
 
 -- e was applied: the account afterwards, and the receipt
 pub record Applied (m : List ℕ) (e : Event) (v : View) (k : List ℕ) (r : ℕ) : Type 0 where

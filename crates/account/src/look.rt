@@ -22,7 +22,7 @@ use rules::{Event, Service, View};
 use span::Part;
 
 // What only the kinds that look at the debt look at, on an event's day.
-#[derive(Clone, Copy)]
+#[derive(Clone, Copy, Default)]
 pub struct Debts {
     pub arrears: u64,
     pub in_force: bool,
@@ -32,16 +32,6 @@ pub struct Debts {
     pub certified: bool,
     pub approved: bool,
 }
-
-const NO_DEBTS: Debts = Debts {
-    arrears: 0,
-    in_force: false,
-    notice_live: false,
-    notice_in_days: false,
-    called: false,
-    certified: false,
-    approved: false,
-};
 
 // The sums and the deposit; `payment` is that of the receipt which a returned payment names, `earned` is for a deposit moved.
 #[derive(Clone, Copy)]
@@ -76,7 +66,7 @@ fn debts_for(account: Known, e: Event) -> Debts
     if table::looks_at_debt(e) {
         debts_on(account, u64::from(e.day))
     } else {
-        NO_DEBTS
+        Debts::default()
     }
 }
 

@@ -10,11 +10,11 @@ use crate::look;
 use rules::refusals::Refusal;
 use rules::{Event, View};
 
-// An event that they do not refuse: what they looked at, and what the event charges.
+// An event that they do not refuse: what they looked at, and the amount of the item that it makes, if it makes one.
 #[derive(Clone, Copy)]
 pub struct Offer {
     pub view: View,
-    pub charge: u64,
+    pub item: Option<u64>,
 }
 
 // What they look at is read only where rows 1 to 3 let the event pass: these are asked before.
@@ -22,6 +22,6 @@ pub fn ask(account: Known, e: Event) -> Result<Offer, Refusal>
     ensures { let s = state_on account.entry.words.now in result ≡ answered (refusal_by (view s e) e) (offer_of s e) }
 {
     let view = look::seen(account, e);
-    let charge = table::check(view, e)?;
-    Ok(Offer { view, charge })
+    let item = table::check(view, e)?;
+    Ok(Offer { view, item })
 }

@@ -12,14 +12,13 @@ use rules::{Event, InRange};
 
 // The money: ledger, receipts and arrangement.
 fn move_money(m: &mut [u64], posted: InRange, offer: Offer)
-    requires { Passing m.old posted.event offer.view offer.charge }
+    requires { Passing m.old posted.event offer.view offer.item }
     ensures { Became m.new (money_after (state_on m.old) posted.event offer.view) }
 {
     let e = posted.event;
     let v = offer.view;
-    let item = amounts::charges(e).then_some(offer.charge);
     let credit = amounts::credit(v, e);
-    ledger::step(&mut m[LEDGER..WORDS], e, item, credit);
+    ledger::step(&mut m[LEDGER..WORDS], e, offer.item, credit);
     receipts::step(&mut m[RECEIPTS..LEDGER], e);
     arrangement::step(&mut m[ARRANGEMENT..RECEIPTS], posted, v.arrears, v.payment);
 }
@@ -34,20 +33,24 @@ fn keep_file(m: &mut [u64], posted: InRange)
 }
 
 // Service, notice and calls, and the day. The arrears after the event are worked out only where a notice could lapse by them.
-fn set_service(m: &mut [u64], e: Event)
+pub fn set_service(m: &mut [u64], e: Event)
     requires { length m.old ≡ account_size }
     ensures { Became m.new (service_after (state_on m.old) e) }
 {
     let t = u64::from(e.day);
     let watched = collection::watches(&m[COLLECTION..DEPOSIT], e);
-    let due = ledger::arrears_where(&m[LEDGER..WORDS], t, watched);
+    let due = if watched {
+        ledger::arrears(&m[LEDGER..WORDS], t)
+    } else {
+        0
+    };
     collection::step(&mut m[COLLECTION..DEPOSIT], e, due);
     span::store_word(&mut m[LAST..COLLECTION], t);
 }
 
 // The account after an event that passes; says the receipt of a payment, or 0.
 pub fn apply(m: &mut [u64], posted: InRange, offer: Offer) -> u64
-    requires { Passing m.old posted.event offer.view offer.charge }
+    requires { Passing m.old posted.event offer.view offer.item }
     ensures { Applied m.old posted.event offer.view m.new result }
 {
     let e = posted.event;

@@ -10,24 +10,11 @@ ghost use Rattle.account.specs.Post.{Judges};
 ghost use Rattle.account.specs.Looks.{Became, Applied, Free, only_item};
 
 use crate::known::Known;
-use crate::spans::{ARRANGEMENT, COLLECTION, DEPOSIT, LAST, LEDGER, RECEIPTS, WORDS};
+use crate::spans::{ARRANGEMENT, LEDGER, RECEIPTS, WORDS};
+use crate::step::set_service;
 use rules::kinds::Kind;
 use rules::refusals::Refusal;
 use rules::{Answer, Event, InRange};
-
-// The day, and the notice, which can only lapse. The arrears are worked out only where there is one.
-fn pass_day(m: &mut [u64], e: Event)
-    requires { (length m.old ≡ account_size) × (e.kind < deposit_asked) }
-    ensures { Became m.new (service_after (state_on m.old) e) }
-{
-    let t = u64::from(e.day);
-    span::store_word(&mut m[LAST..COLLECTION], t);
-    if collection::quiet(&m[COLLECTION..DEPOSIT]) {
-        return;
-    }
-    let due = ledger::arrears(&m[LEDGER..WORDS], t);
-    collection::lapse(&mut m[COLLECTION..DEPOSIT], due);
-}
 
 // ---- payments
 // 19: payments plus deposits moved would pass the limit.
@@ -55,7 +42,7 @@ fn pay(m: &mut [u64], posted: InRange) -> u64
     ensures { let e = posted.event in Applied m.old e (view (state_on m.old) e) m.new result }
 {
     take_payment(m, posted);
-    pass_day(m, posted.event);
+    set_service(m, posted.event);
     receipts::count(&m[RECEIPTS..LEDGER])
 }
 
@@ -103,7 +90,7 @@ fn charge_item(m: &mut [u64], e: Event, charge: u64)
     ensures { Applied m.old e (view (state_on m.old) e) m.new 0 }
 {
     ledger::step(&mut m[LEDGER..WORDS], e, Some(charge), 0);
-    pass_day(m, e);
+    set_service(m, e);
 }
 
 pub fn item(m: &mut [u64], e: Event) -> Answer

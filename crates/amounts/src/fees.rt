@@ -10,6 +10,14 @@ use rules::kinds::Kind;
 // hours, reconnection after hours.
 const FEES: [u64; 7] = [7_500, 15_000, 3_000, 1_500, 2_500, 2_000, 7_500];
 
+// The fees that a kind brings of itself.
+const NOTICE_FEE: u64 = 4;
+
+const RETURNED_CHECK: u64 = 5;
+
+// in hours; after hours the next
+const RECONNECTION: u64 = 6;
+
 // The fee of a number, 0 where there is none of that number: it is added, and what is no fee adds nothing.
 pub fn fee(n: u64) -> u64
     ensures { result ≡ fee_of n }
@@ -26,9 +34,9 @@ pub fn fee_number(e: Event) -> u64
 {
     match Kind::try_from(e.kind) {
         Ok(Kind::Fee) => u64::from(e.option),
-        Ok(Kind::FinalNotice) => 4,
-        Ok(Kind::ReturnedPayment) => 5,
-        Ok(Kind::Reconnection) => 6 + u64::from(e.option),
+        Ok(Kind::FinalNotice) => NOTICE_FEE,
+        Ok(Kind::ReturnedPayment) => RETURNED_CHECK,
+        Ok(Kind::Reconnection) => RECONNECTION + u64::from(e.option),
         _ => 0,
     }
 }

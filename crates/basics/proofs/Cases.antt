@@ -35,10 +35,6 @@ pub picked : (b : Bool) (x : ℕ) → (cond b x 0 ≡ 0 → ⊥) → b ≡ true
 picked true x f = refl
 picked false x f = absurd (f refl)
 
-pub at_most : (b : Bool) (x n : ℕ) → (b ≡ true → x ≤ n) → cond b x 0 ≤ n
-at_most true x n f = f refl
-at_most false x n f = omega arith
-
 -- ---- a test of several parts, `a && b && c`, as facts: its parts are given once more as a list
 abbrev pub chain : Bool → List Bool → Bool
 chain a [] = a

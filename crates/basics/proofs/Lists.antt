@@ -5,7 +5,6 @@ use mathlib.Core.Bool.{Bool, true}
 use mathlib.Core.List.{List, [], ◌∷◌, ◌++◌}
 use native.Mathlib.Nat.{not-suc-le-zero, le_of_suc-le-suc}
 use lib.ListN.{length, get_or, set}
-use Rattle.basics.specs.Lists.{every}
 use Rattle.std.proofs.lemmas.Bool.{and_parts}
 
 module _ {A : Type 0} where
@@ -14,9 +13,3 @@ module _ {A : Type 0} where
   at_set [] i d = refl
   at_set (x ∷ xs) zero d = refl
   at_set (x ∷ xs) (suc i) d = at_set xs i d
-
-  -- ---- what every element has, as a test
-  pub every_in : (f : A → Bool) (l : List A) (i : ℕ) (d : A) → i < length l → every f l ≡ true → f (get_or l i d) ≡ true
-  every_in f [] i d h e = absurd (not-suc-le-zero h)
-  every_in f (x ∷ xs) zero d h e = (and_parts (f x) (every f xs) e).0
-  every_in f (x ∷ xs) (suc i) d h e = every_in f xs i d (le_of_suc-le-suc h) (and_parts (f x) (every f xs) e).1

@@ -1,3 +1,2 @@
 pub mod Machine
-pub mod Lists
 pub mod Ascii

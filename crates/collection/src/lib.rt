@@ -2,7 +2,7 @@
 // disconnection may ask for.
 #![tactic(auto)]
 
-ghost use Rattle.std.specs.Prelude.{◌≡◌, cond, ◌+◌, eqb, length};
+ghost use Rattle.std.specs.Prelude.{◌≡◌, cond, ◌+◌, length};
 ghost use Rattle.rules.specs.declared.Service.{Service as ServiceT};
 ghost use Rattle.rules.specs.History.{within};
 ghost use Rattle.collection.specs.Collection.{service_by, served_after, notice_after, live_by, in_days_by, calls_after, recent_by, called_by, collection_after, watched, concerns, lapsed_by, collection_ok, collection_size, collection_on};
@@ -76,14 +76,11 @@ fn recent(next: u64, t: u64) -> bool
 fn service_after(service: u64, e: Event) -> u64
     ensures { result ≡ served_after service e }
 {
-    if e.is(Kind::Disconnection) {
-        OFF
-    } else if e.is(Kind::Reconnection) {
-        ON
-    } else if e.is(Kind::Closing) {
-        CLOSED
-    } else {
-        service
+    match Kind::try_from(e.kind) {
+        Ok(Kind::Disconnection) => OFF,
+        Ok(Kind::Reconnection) => ON,
+        Ok(Kind::Closing) => CLOSED,
+        _ => service,
     }
 }
 
@@ -230,16 +227,8 @@ pub fn watches(w: &[u64], e: Event) -> bool
     e.is(Kind::FinalNotice) | (w[NOTICE_LIVE] == 1)
 }
 
-// Whether there is no notice that an event could make lapse.
-pub fn quiet(w: &[u64]) -> bool
-    requires { length w.now ≡ collection_size }
-    ensures { result ≡ eqb (collection_on w.now).notice.live 0 }
-{
-    w[NOTICE_LIVE] == 0
-}
-
 // An event that is none of collection's can only make a notice lapse.
-pub fn lapse(w: &mut [u64], arrears: u64)
+fn lapse(w: &mut [u64], arrears: u64)
     requires { length w.old ≡ collection_size }
     ensures { collection_on w.new ≡ lapsed_by (collection_on w.old) arrears }
 {

@@ -6,7 +6,8 @@ use native.Mathlib.Omega.{arith}
 use lib.Dec.{eqb}
 use lib.ListN.{length}
 use borrow.Author.Tests.{eq-eqb, ne_eqb}
-use Rattle.basics.proofs.Cases.{on, at_most}
+use Rattle.basics.proofs.Cases.{on}
+use Rattle.std.proofs.lemmas.Bool.{cond_both}
 use Rattle.rules.specs.declared.Event.{Event}
 use Rattle.rules.specs.Kinds.{payment}
 use Rattle.rules.specs.History.{is}
@@ -30,7 +31,7 @@ receipt_at_lem : (s : State) (e : Event) → s.receipts.count ≤ limit → rece
 unfolding answer_at
 receipt_at_lem s e h =
     on (eqb (refusal_at s e) 0)
-    (λ q. rw q (at_most (is payment e) (s.receipts.count + 1) (limit + 1) (λ p. omega arith)))
+    (λ q. rw q (cond_both (is payment e) (s.receipts.count + 1) 0 (λ n. n ≤ limit + 1) (λ p. omega arith) (λ p. omega arith)))
     (λ q. rw q (omega arith))
 
 pub receipt_small : (m : List ℕ) (e : Event) → receipt_of (answer_to m e) ≤ limit + 1

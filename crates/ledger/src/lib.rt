@@ -1,10 +1,11 @@
 // The ledger of an account, in its own words of the account's memory: what was charged, credited and paid out, and the items
 // that are open. Item k, counted from 0 over all charges, stands at place k mod 64 with its day and the sum of the charges up to
 // it (document 01: C_k). These sums rise, so what is paid is always the oldest: `closed` counts it, and no place changes.
-// What is read is defined for any words, so that the test need not look through the places.
+// What is read is defined for any words, so that the test need not look through the places. No `Part`: a step changes a word or
+// two in place.
 #![tactic(auto)]
 
-ghost use Rattle.std.specs.Prelude.{◌≡◌, cond, ◌+◌, ◌-◌, ◌≤◌, ◌<◌, min, is_some, unwrap_or, length, get_or};
+ghost use Rattle.std.specs.Prelude.{◌≡◌, ◌+◌, ◌-◌, ◌≤◌, ◌<◌, min, is_some, unwrap_or, length, get_or};
 ghost use Rattle.std.proofs.Math.IntN.{sub_ℕ};
 ghost use Rattle.rules.specs.Money.{unpaid as unpaid_of, due as due_of};
 ghost use Rattle.rules.specs.Limits.{limit};
@@ -200,8 +201,8 @@ fn pay_out(w: &mut [u64; WORDS], amount: u64)
     w[PAID_OUT] = paid;
 }
 
-// The step of an accepted event: the item that it adds, so much, if it adds one, and what it credits. It does one thing at most, and
-// an event that does none touches no word.
+// The step of an accepted event: the item that it adds, so much, if it adds one, and what it credits; a credit of 0 is none, as
+// it moves nothing. It does one thing at most, and an event that does none touches no word.
 #[tactic(auto, using(crate::proofs::ByKind::on_charge, crate::proofs::ByKind::on_credit, crate::proofs::ByKind::on_payout, crate::proofs::ByKind::on_other))]
 pub fn step(w: &mut [u64], e: Event, item: Option<u64>, credit: u64)
     requires w_len { length w.old ≡ ledger_size }
@@ -262,14 +263,6 @@ pub fn arrears(w: &[u64], t: u64) -> u64
     sum
 }
 
-// The arrears for who asks for them: nothing is looked through where they are not wanted.
-pub fn arrears_where(w: &[u64], t: u64, wanted: bool) -> u64
-    requires { length w.now ≡ ledger_size }
-    ensures { result ≡ cond wanted (arrears_by (ledger_on w.now) t) 0 }
-{
-    if wanted { arrears(w, t) } else { 0 }
-}
-
 // The sum of the items before open item i.
 fn sum_before(w: &[u64; WORDS], i: u64) -> u64
     requires { i < (ledger_on w.now).made - (ledger_on w.now).closed }
@@ -281,7 +274,7 @@ fn sum_before(w: &[u64; WORDS], i: u64) -> u64
     Entry::at(w, w[CLOSED] + i - 1).upto
 }
 
-// Open item i, from 0 in the order posted; an item of 0 past the last.
+// Open item i, from 0 in the order posted; an item of 0 past the last: every index has an answer, as C has it in two numbers.
 pub fn open_item(w: &[u64], i: u64) -> OpenItem
     requires { length w.now ≡ ledger_size }
     ensures { result ≡ get_or (open_by (ledger_on w.now)) i no_item }

@@ -7,7 +7,8 @@ use native.Mathlib.Omega.{arith}
 use lib.Dec.{ltb}
 use lib.ListN.{get_or}
 use borrow.Author.Tests.{le-leb, le-ltb, eqb-true}
-use Rattle.basics.proofs.Cases.{on, at_most}
+use Rattle.basics.proofs.Cases.{on}
+use Rattle.std.proofs.lemmas.Bool.{cond_both}
 use Rattle.rules.specs.declared.Event.{Event}
 use Rattle.rules.specs.Kinds.{certificate, approval}
 use Rattle.rules.specs.Limits.{final_day, certificate_days, approval_days}
@@ -49,8 +50,9 @@ approved_is (e ∷ h) t s l =
 -- the end that an accepted event of kind k sets, by the largest amount of the kind
 end_in : (k : ℕ) (h : History) (e : Event) → Passed h e → cond (is k e) (e.day + e.amount) 0 ≤ final_day + (get_or fields k unknown).amount_to
 end_in k h e p =
-    at_most (is k e) (e.day + e.amount) (final_day + (get_or fields k unknown).amount_to)
+    cond_both (is k e) (e.day + e.amount) 0 (λ n. n ≤ final_day + (get_or fields k unknown).amount_to)
     (λ q. omega (arith, p.in_time, (ranged k e p.fields_fit (eqb-true e.kind k q)).amount_high))
+    (λ q. zero-le)
 
 record Ends (m : Medical) : Type 0 where
   certified_le : m.certified_to ≤ final_day + certificate_days

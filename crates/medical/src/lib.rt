@@ -27,7 +27,8 @@ pub struct Medical {
     pub approved_to: u64,
 }
 
-// The day past the end of a certificate or an approval; 0 where the event is not the one that is looked for.
+// The day past the end of a certificate or an approval; 0 where the event is not the one that is looked for, of which the sum might
+// wrap.
 fn end_of(wanted: bool, e: Event) -> u64
     requires { wanted ≡ true → e.amount ≤ certificate_days }
     ensures { result ≡ cond wanted (e.day + e.amount) 0 }

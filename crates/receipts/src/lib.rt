@@ -1,6 +1,8 @@
 // Receipts, as an account keeps them in 33 words of its memory: how many payments were accepted, and the amounts of the newest
 // 32. The payment of receipt r stands at place r mod 32: a payment takes the place of the one 32 before it. 0, which no payment
-// is, where it was returned or there is none: the layout of memory is fixed, so what is read stays that word.
+// is, where it was returned or there is none: the layout of memory is fixed, so what is read stays that word. No `Part`: a step changes a
+// word or two in place. Each function takes the slice that an account lends, with its length as a clause: made an array at each
+// call it would be no plainer.
 #![tactic(auto)]
 
 ghost use Rattle.std.specs.Prelude.{◌≡◌, cond, ◌+◌, ◌%◌, length};
@@ -16,6 +18,7 @@ use rules::limits::{KNOWN_RECEIPTS, LIMIT};
 pub const WORDS: usize = 33;
 
 // The count and the ring lie in one slice: programs in C keep the account's memory, so its layout is fixed.
+
 // how many payments were accepted
 const COUNT: usize = 0;
 

@@ -9,8 +9,8 @@ use lib.ListN.{length, get_or}
 use borrow.Author.Tests.{lt-ltb, ltb-true, ltb-false, leb-false, eqb-false, ne_eqb}
 use Rattle.std.proofs.lemmas.Bool.{and_parts}
 use Rattle.basics.proofs.Cases.{on, on_eq, picked}
-use Rattle.basics.specs.Lists.{every}
-use Rattle.basics.proofs.Lists.{every_in}
+use Rattle.std.specs.List.{list_all}
+use Rattle.std.proofs.lemmas.List.Recursion.{and_at}
 use Rattle.rules.specs.declared.Event.{Event}
 use Rattle.rules.specs.declared.View.{View}
 use Rattle.rules.specs.Kinds.{bill, payment, returned_payment, fee, deposit_asked, deposit_paid, arrangement, final_notice, reconnection}
@@ -68,7 +68,7 @@ arrears_charged h t =
 -- a fee, of each number from 1 to 7
 fee_above : (n : ℕ) → 1 ≤ n → n ≤ 7 → 0 < fee_of n
 fee_above zero p q = absurd (omega arith)
-fee_above (suc n) p q = ltb-true 0 (get_or fees n 0) (every_in (ltb 0) fees n 0 (omega arith) refl)
+fee_above (suc n) p q = ltb-true 0 (get_or fees n 0) (and_at (list_all (ltb 0)) (ltb 0) refl (λ _ _. refl) fees n 0 (omega arith) refl)
 
 pub charge_above : (h : History) (e : Event) → in_range e ≡ true → charges e ≡ true → 0 < charge h e
 charge_above h e r c =
@@ -151,7 +151,7 @@ pub count_limit : (h : History) → Lawful h → length (payments h) ≤ limit
 count_limit h w = omega (arith, payments_count h w, credited_limit h w)
 
 -- every payment is above 0, so that 0 can stand for a receipt that is not known
-payments_above : (h : History) → Lawful h → every (ltb 0) (payments h) ≡ true
+payments_above : (h : History) → Lawful h → list_all (ltb 0) (payments h) ≡ true
 payments_above [] w = refl
 payments_above (e ∷ h) w =
     let ih = payments_above h w.1 in

@@ -5,7 +5,7 @@ use mathlib.Core.Bool.{Bool, true, false, true≢false}
 use mathlib.Core.List.{List, [], ◌∷◌, ◌++◌}
 use native.Mathlib.Omega.{arith}
 use lib.ListN.{length}
-use Rattle.basics.specs.Lists.{every}
+use Rattle.std.specs.List.{list_all}
 use Rattle.std.proofs.lemmas.Bool.{and_parts, false_from_ne_true}
 use Rattle.basics.proofs.Cases.{on}
 use Rattle.std.specs.List.{All}
@@ -40,11 +40,11 @@ keep_short f (x ∷ xs) =
     let ih = keep_short f xs in
     on (f x) (λ q. rw q (omega arith)) (λ q. rw q (omega arith))
 
-pub every_keep : (q f : Item → Bool) (xs : List Item) → every q xs ≡ true → every q (keep f xs) ≡ true
+pub every_keep : (q f : Item → Bool) (xs : List Item) → list_all q xs ≡ true → list_all q (keep f xs) ≡ true
 every_keep q f [] e = refl
 every_keep q f (x ∷ xs) e =
-    let ih = every_keep q f xs (and_parts (q x) (every q xs) e).1 in
-    on (f x) (λ z. rw (z, (and_parts (q x) (every q xs) e).0) ih) (λ z. rw z ih)
+    let ih = every_keep q f xs (and_parts (q x) (list_all q xs) e).1 in
+    on (f x) (λ z. rw (z, (and_parts (q x) (list_all q xs) e).0) ih) (λ z. rw z ih)
 
 -- ---- sums
 pub sum_append : (f : Item → ℕ) (xs ys : List Item) → sum_of f (xs ++ ys) ≡ sum_of f xs + sum_of f ys

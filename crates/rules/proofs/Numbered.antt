@@ -5,7 +5,7 @@ use Rattle.std.specs.Result.{result_unwrap_or, is_ok, IsErrAnd}
 use Rattle.std.proofs.lemmas.Bool.{and_parts}
 use Rattle.std.proofs.lemmas.Result.{err_from_is_err_and}
 use Rattle.basics.proofs.Cases.{on}
-use Rattle.basics.specs.Lists.{every}
+use Rattle.std.specs.List.{list_all}
 use Rattle.rules.specs.declared.refusals.Refusal.{Refusal}
 use Rattle.rules.specs.declared.refusals.Refusal.TheVariants.{NoAccount}
 use Rattle.rules.specs.declared.Event.{Event}
@@ -44,7 +44,7 @@ pub value_answered : {A : Type 0} (n : ℕ) (none x : A) → result_unwrap_or (a
 value_answered n none x = on (eqb n 0) (λ q. rw q refl) (λ q. rw q refl)
 
 -- ---- the numbers of the table
-row_in : (k : ℕ) (rs : List Row) (v : View) (e : Event) (rest : ℕ) → every (λ r. ltb r.number k) rs ≡ true → rest < k → first_of rs v e rest < k
+row_in : (k : ℕ) (rs : List Row) (v : View) (e : Event) (rest : ℕ) → list_all (λ r. ltb r.number k) rs ≡ true → rest < k → first_of rs v e rest < k
 row_in k [] v e rest w h = h
 row_in k (r ∷ rs) v e rest w h =
     on (r.refuses v e)

@@ -28,6 +28,7 @@ pub enum Kind {
 pub struct UnknownKind(pub u8);
 
 impl Kind {
+    // The papers' word for it.
     pub fn number(self) -> u8
         ensures { result ≡ kind_number self }
     {

@@ -33,7 +33,7 @@ pub struct InRange {
     ghost well_formed: { WellFormed event },
 }
 
-// The ranges of an event's option and amount, both ends included.
+// The ranges of an event's option and amount, both ends included, as the definitions have them: a range of the library is none of theirs.
 #[derive(Clone, Copy)]
 pub struct Fields {
     pub option_from: u8,
@@ -49,10 +49,11 @@ pub enum Service {
     Closed = 2,
 }
 
-// Accepted, with the receipt of a payment or 0; or refused.
+// Accepted, with the receipt of a payment, 0 for others: the papers' value of an answer, which C adds to 256; or refused.
 pub type Answer = Result<u64, Refusal>;
 
-// A charge: its day, its amount, and the sum of all charges up to it (document 01: an item, a_k, C_k).
+// A charge: its day, its amount, and the sum of all charges up to it (document 01: an item, a_k, C_k). Only definitions speak of it: the
+// ledger keeps the day and the sum.
 #[derive(Clone, Copy)]
 pub struct Item {
     pub day: u32,
@@ -121,6 +122,7 @@ impl Event {
 }
 
 impl Service {
+    // Named as the rules name them.
     pub fn is_on(self) -> bool
         ensures { result ≡ is_on self }
     {

@@ -43,6 +43,7 @@ pub enum Refusal {
 }
 
 impl Refusal {
+    // The papers' word for it.
     pub fn number(self) -> u8
         ensures { result ≡ refusal_number self }
     {

@@ -30,6 +30,7 @@ pub trait Part: Copy {
         ensures { result ≡ passes self };
 }
 
+// The step of a part: which events concern it, and what they change, is all that a part says of its own.
 pub fn change<P: Part, F: FnOnce(P) -> P>(w: &mut [u64], f: F)
     requires words { length w.old ≡ P.WORDS }
     requires callable { F.pre f (P.on w.old) }

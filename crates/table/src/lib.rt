@@ -6,7 +6,9 @@ mod arms;
 
 ghost use Rattle.std.specs.Prelude.{◌≡◌, min};
 ghost use Rattle.basics.specs.Machine.{largest};
+ghost use Rattle.std.specs.Bool.{then_some};
 ghost use Rattle.rules.specs.Answer.{answered};
+ghost use Rattle.rules.specs.Money.{charges};
 ghost use Rattle.rules.specs.Table.{row4 as Row4, charge_of, refusal_by};
 ghost use Rattle.table.specs.ByKind.{from_row5};
 ghost use Rattle.table.specs.Seen.{looks_at_debt};
@@ -35,7 +37,7 @@ fn row4(v: View, e: Event) -> bool
         & !(e.is(Kind::Payment) | e.is(Kind::ReturnedPayment) | e.is(Kind::Payout))
 }
 
-// 5 to 19, of which each kind has its own; `charge` is the amount of the item that the event makes. A certificate, an approval and a kind that is not known have none.
+// 5 to 19, of which each kind has its own; `charge` is the amount of the item that the event makes, 0 where it makes none. A certificate, an approval and a kind that is not known have none.
 #[tactic(auto, unfolding(crate::specs::ByKind::from_row5), using(crate::proofs::Equations::passing, crate::proofs::ByKind::of_unknown))]
 fn from_row5(v: View, e: Event, charge: u64) -> Result<(), Refusal>
     requires { charge ≡ min (charge_of v e) largest }
@@ -63,13 +65,13 @@ fn from_row5(v: View, e: Event, charge: u64) -> Result<(), Refusal>
     }
 }
 
-// Rows 4 to 19: refused by the first that refuses the event; where none does, the amount of the item that it makes, 0 where it makes none.
-#[tactic(auto, unfolding(crate::specs::ByKind::from_row5, rules::specs::Table::refusal_by))]
-pub fn check(v: View, e: Event) -> Result<u64, Refusal>
-    ensures { result ≡ answered (refusal_by v e) (min (charge_of v e) largest) }
+// Rows 4 to 19: refused by the first that refuses the event; where none does, the amount of the item that it makes, if it makes one.
+#[tactic(auto, unfolding(crate::specs::ByKind::from_row5, rules::specs::Table::refusal_by), using(amounts::proofs::Equations::item_amount))]
+pub fn check(v: View, e: Event) -> Result<Option<u64>, Refusal>
+    ensures { result ≡ answered (refusal_by v e) (then_some (charges e) (min (charge_of v e) largest)) }
 {
     Refusal::Closed.when(row4(v, e))?;
-    let charge = amounts::charge(v, e);
-    from_row5(v, e, charge)?;
-    Ok(charge)
+    let item = amounts::charge(v, e);
+    from_row5(v, e, item.unwrap_or(0))?;
+    Ok(item)
 }

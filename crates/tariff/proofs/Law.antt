@@ -8,10 +8,10 @@ use native.Mathlib.Omega.{arith}
 use lib.Dec.{leb, eqb}
 use lib.ListN.{length, get_or}
 use borrow.Author.Tests.{leb-true, eqb-true}
-use Rattle.basics.specs.Lists.{every}
+use Rattle.std.specs.List.{list_all}
 use Rattle.std.proofs.lemmas.Bool.{and_from}
 use Rattle.basics.proofs.Cases.{Each, links}
-use Rattle.basics.proofs.Lists.{every_in}
+use Rattle.std.proofs.lemmas.List.Recursion.{and_at}
 use Rattle.rules.specs.declared.Block.{Block}
 use Rattle.rules.specs.Kinds as kinds
 use Rattle.rules.specs.Limits.{most_amount, most_usage}
@@ -34,13 +34,13 @@ most_basic = 10_000
 abbrev sound : List Block → Bool
 sound row = steep_from 0 row && leb (energy_by row most_usage) most_energy && eqb (length row) 3
 
-rows : every sound schedules ≡ true
+rows : list_all sound schedules ≡ true
 rows = refl
 
 abbrev small : ℕ → Bool
 small basic = leb 1 basic && leb basic most_basic
 
-charges : every small basic_charges ≡ true
+charges : list_all small basic_charges ≡ true
 charges = refl
 
 -- ---- refused or not
@@ -52,7 +52,7 @@ module _ (class usage : ℕ) (a : Allowed class usage) where
   row_facts : (steep_from 0 (row_of class) ≡ true) × Each (leb (energy_by (row_of class) most_usage) most_energy ∷ eqb (length (row_of class)) 3 ∷ [])
   row_facts =
       links (steep_from 0 (row_of class)) (leb (energy_by (row_of class) most_usage) most_energy ∷ eqb (length (row_of class)) 3 ∷ [])
-      (every_in sound schedules (class - 1) [] (omega arith) rows)
+      (and_at (list_all sound) sound refl (λ _ _. refl) schedules (class - 1) [] (omega arith) rows)
 
   pub energy_most : energy_by (row_of class) usage ≤ most_energy
   energy_most =
@@ -61,7 +61,7 @@ module _ (class usage : ℕ) (a : Allowed class usage) where
 
   pub basic_in : (1 ≤ basic_of class) × (basic_of class ≤ most_basic)
   basic_in =
-      let f = links (leb 1 (basic_of class)) (leb (basic_of class) most_basic ∷ []) (every_in small basic_charges (class - 1) 0 (omega arith) charges) in
+      let f = links (leb 1 (basic_of class)) (leb (basic_of class) most_basic ∷ []) (and_at (list_all small) small refl (λ _ _. refl) basic_charges (class - 1) 0 (omega arith) charges) in
       (leb-true 1 (basic_of class) f.0, leb-true (basic_of class) most_basic f.1.0)
 
   -- the range of a bill's amount

@@ -26,7 +26,8 @@ struct Schedule {
     blocks: [Block; BLOCKS],
 }
 
-// The schedules, by class: residential, single phase, three phase. A class with one price has it in every block.
+// The schedules, by class: residential, single phase, three phase. A class with one price has it in every block. Limits stand beside
+// prices in each, as the source has them.
 const SCHEDULES: [Schedule; CLASSES] = [
     Schedule {
         basic_charge: 1_031,
@@ -81,7 +82,7 @@ const SCHEDULES: [Schedule; CLASSES] = [
     },
 ];
 
-// What stands past the last line. C asks for the two numbers by themselves, so that there is no line is said by them.
+// What stands past the last line: every index has an answer, and C asks for the two numbers by themselves.
 const NO_LINE: Line = Line { used: 0, price: 0 };
 
 impl Schedule {

@@ -2,26 +2,20 @@ use Rattle.std.proofs.Common.{ap, ◌∙◌}
 use Rattle.rules.specs.Table.{refusal_by}
 use Rattle.rules.proofs.Numbered.{answered_ok, handed_on}
 use Rattle.account.specs.State.{state_on, view, applied}
-use Rattle.account.specs.Post.{receipt_at}
 use Rattle.account.specs.Looks.{offer_of}
-use Rattle.account.proofs.Exits.{refused_first, refused_rest, passed_rest, judges_refused, judges_accepted, passing_of}
+use Rattle.account.proofs.Exits.{passed_rest, judges_first, judges_rest, judges_accepted, passing_of}
 use Rattle.account.proofs.Steps.{applied_seen}
 use Rattle.account.proofs.judge_any.Goals as goal
 
 pub returns-in_err-posted : goal.returns-in_err-posted
 returns-in_err-posted c =
     let left = handed_on _ c.from_residual.ensures.1 in
-    let a = c.args in
-    let s = state_on a.m.now in
-    rw left (judges_refused a.m.now a.e _ (receipt_at s a.e) (refused_first s a.e _ _ (rw c.last.ensures at c.in_err-posted.ensures)))
+    rw left (judges_first c.args.m.now c.args.e _ (rw c.last.ensures at c.in_err-posted.ensures))
 
 pub returns-in_err-offer : goal.returns-in_err-offer
 returns-in_err-offer c =
     let left = handed_on _ c.from_residual-in_err-offer.ensures.1 in
-    let a = c.args in
-    let s = state_on a.m.now in
-    let first = rw c.last.ensures at c.in_ok-posted.ensures.1 in
-    rw left (judges_refused a.m.now a.e _ (receipt_at s a.e) (refused_rest s a.e _ _ _ first c.in_err-offer.ensures))
+    rw left (judges_rest c.args.m.now c.args.e _ _ (rw c.last.ensures at c.in_ok-posted.ensures.1) c.in_err-offer.ensures)
 
 pub apply-requires : goal.apply-requires
 apply-requires c =

@@ -1,6 +1,6 @@
 use mathlib.Core.Path.{◌∙◌}
 use Rattle.ledger.proofs.ByKind.{item_room, item_after}
-use Rattle.account.proofs.Steps.{passing_room, charge_exact, money_room, receipts_still, arrangement_still, money_by}
+use Rattle.account.proofs.Steps.{passing_room, item_exact, money_room, receipts_still, arrangement_still, money_by}
 use borrow.Author.Rules.{rules}
 use Rattle.account.proofs.step.move_money.Goals as goal
 
@@ -13,8 +13,8 @@ step-requires c =
       w_len = search rules;
       ledger_fit = p.fit.fit.ledger_fit;
       ledger_room =
-          rw (c.credit-credit.ensures, c.then_some-item.ensures, c.charges.ensures, charge_exact a.m.now e a.offer.view a.offer.charge p)
-          (item_room _ e _ _ _ (money_room a.m.now e a.offer.view a.offer.charge p));
+          rw (c.credit-credit.ensures, item_exact a.m.now e a.offer.view a.offer.item p)
+          (item_room _ e _ _ _ (money_room a.m.now e a.offer.view a.offer.item p));
     }
 
 pub step-requires-2 : goal.step-requires-2
@@ -29,7 +29,7 @@ step-requires-3 c =
       search rules,
       rw (arrangement_still a.m.now c.requires.fit.words_are e c.step.new.w (search rules) c.step-2.new.w (search rules))
           c.requires.fit.fit.arrangement_fit,
-      (passing_room a.m.now e a.offer.view a.offer.charge c.requires).payment_room,
+      (passing_room a.m.now e a.offer.view a.offer.item c.requires).payment_room,
     )
 
 pub returns : goal.returns
@@ -39,7 +39,6 @@ returns c =
     money_by a.m.now c.requires.fit.words_are e c.step.new.w (search rules) c.step-2.new.w (search rules) c.step-3.new.w
     a.offer.view (search rules)
     (c.step.ensures
-    ∙ rw (c.credit-credit.ensures, c.then_some-item.ensures, c.charges.ensures, charge_exact a.m.now e a.offer.view a.offer.charge c.requires)
-    (item_after _ e _ _ _))
+    ∙ rw (c.credit-credit.ensures, item_exact a.m.now e a.offer.view a.offer.item c.requires) (item_after _ e _ _ _))
     c.step-2.ensures
     c.step-3.ensures

@@ -1,23 +1,17 @@
 use Rattle.rules.proofs.Numbered.{answered_ok, handed_on}
 use Rattle.account.specs.State.{state_on}
-use Rattle.account.specs.Post.{receipt_at}
-use Rattle.account.proofs.Exits.{refused_first, refused_rest, passed_rest, free_of, judges_refused, judges_accepted}
+use Rattle.account.proofs.Exits.{passed_rest, free_of, judges_first, judges_rest, judges_accepted}
 use Rattle.account.proofs.ways.item.Goals as goal
 
 pub returns-in_err-check_event : goal.returns-in_err-check_event
 returns-in_err-check_event c =
     let left = handed_on _ c.from_residual.ensures.1 in
-    let a = c.args in
-    let s = state_on a.m.now in
-    rw left (judges_refused a.m.now a.e _ (receipt_at s a.e) (refused_first s a.e _ _ (rw c.last.ensures at c.in_err-check_event.ensures)))
+    rw left (judges_first c.args.m.now c.args.e _ (rw c.last.ensures at c.in_err-check_event.ensures))
 
 pub returns-in_err-charge : goal.returns-in_err-charge
 returns-in_err-charge c =
     let left = handed_on _ c.from_residual-in_err-charge.ensures.1 in
-    let a = c.args in
-    let s = state_on a.m.now in
-    let first = rw c.last.ensures at c.in_ok-check_event.ensures.1 in
-    rw left (judges_refused a.m.now a.e _ (receipt_at s a.e) (refused_rest s a.e _ _ _ first c.in_err-charge.ensures))
+    rw left (judges_rest c.args.m.now c.args.e _ _ (rw c.last.ensures at c.in_ok-check_event.ensures.1) c.in_err-charge.ensures)
 
 pub charge_item-requires : goal.charge_item-requires
 charge_item-requires c =

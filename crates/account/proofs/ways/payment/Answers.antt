@@ -1,23 +1,17 @@
 use Rattle.rules.proofs.Numbered.{handed_on}
 use Rattle.account.specs.State.{state_on}
-use Rattle.account.specs.Post.{receipt_at}
-use Rattle.account.proofs.Exits.{refused_first, refused_rest, passed_rest, free_of, judges_refused, judges_accepted}
+use Rattle.account.proofs.Exits.{passed_rest, free_of, judges_first, judges_rest, judges_accepted}
 use Rattle.account.proofs.ways.payment.Goals as goal
 
 pub returns-in_err-posted : goal.returns-in_err-posted
 returns-in_err-posted c =
     let left = handed_on _ c.from_residual.ensures.1 in
-    let a = c.args in
-    let s = state_on a.m.now in
-    rw left (judges_refused a.m.now a.e _ (receipt_at s a.e) (refused_first s a.e _ _ (rw c.last.ensures at c.in_err-posted.ensures)))
+    rw left (judges_first c.args.m.now c.args.e _ (rw c.last.ensures at c.in_err-posted.ensures))
 
 pub returns-in_err-check_credit : goal.returns-in_err-check_credit
 returns-in_err-check_credit c =
     let left = handed_on _ c.from_residual-in_err-check_credit.ensures.1 in
-    let a = c.args in
-    let s = state_on a.m.now in
-    let first = rw c.last.ensures at c.in_ok-posted.ensures.1 in
-    rw left (judges_refused a.m.now a.e _ (receipt_at s a.e) (refused_rest s a.e _ _ _ first c.in_err-check_credit.ensures))
+    rw left (judges_rest c.args.m.now c.args.e _ _ (rw c.last.ensures at c.in_ok-posted.ensures.1) c.in_err-check_credit.ensures)
 
 pub pay-requires : goal.pay-requires
 pay-requires c =

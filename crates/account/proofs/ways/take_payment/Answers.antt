@@ -1,5 +1,5 @@
-use Prim.Native.Nat.{zero-le}
-use Rattle.basics.proofs.Cases.{at_most}
+use Prim.Native.Nat.{◌≤◌, zero-le}
+use Rattle.std.proofs.lemmas.Bool.{cond_both}
 use Rattle.rules.specs.Kinds.{returned_payment}
 use Rattle.rules.specs.History.{is}
 use Rattle.rules.specs.Limits.{limit}
@@ -17,7 +17,7 @@ step-requires-3 c =
     let f = c.requires.0.fit in (
       search rules,
       rw (arrangement_still a.m.now f.words_are a.posted.event c.step.new.w (search rules) c.step-2.new.w (search rules)) f.fit.arrangement_fit,
-      at_most (is returned_payment a.posted.event) 0 limit (λ _. zero-le),
+      cond_both (is returned_payment a.posted.event) 0 0 (λ n. n ≤ limit) (λ _. zero-le) (λ _. zero-le),
     )
 
 pub returns : goal.returns
