@@ -114,6 +114,28 @@ pub way_is : (m a c : List ℕ) (e : Event) (v : View) → e.kind < deposit_aske
     → Became c (applied (state_on m) e v)
 way_is m a c e v l p q = steps_are m a a c e v p (record { words_are = p.words_are; state_is = sym (file_still (state_on a) e l) }) q
 
+-- ---- the day and the notice
+module _ (m : List ℕ) (l : length m ≡ account_size) (e : Event) (k : e.kind < deposit_asked) (ys : List ℕ) (q : ys ≡ e.day ∷ []) where
+  collection_still : part sizes 2 (back sizes 1 ys m) ≡ part sizes 2 m
+  collection_still = ap (λ cs. get_or cs 2 []) (then sizes 1 ys (omega arith) (ap length q) (here sizes m l)).cuts
+
+  ledger_still : part sizes 7 (back sizes 1 ys m) ≡ part sizes 7 m
+  ledger_still = ap (λ cs. get_or cs 7 []) (then sizes 1 ys (omega arith) (ap length q) (here sizes m l)).cuts
+
+  pub lapse_by : (ws : List ℕ) (due : ℕ) → length ws ≡ collection_size
+      → due ≡ arrears_by (ledger_on (part sizes 7 (back sizes 1 ys m))) e.day
+      → collection_on ws ≡ lapsed_by (collection_on (part sizes 2 (back sizes 1 ys m))) due
+      → Became (back sizes 2 ws (back sizes 1 ys m)) (service_after (state_on m) e)
+  lapse_by ws due a d p =
+      let t = then sizes 2 ws (omega arith) a (then sizes 1 ys (omega arith) (ap length q) (here sizes m l)) in
+      let d2 = d ∙ ap (λ w. arrears_by (ledger_on w) e.day) ledger_still in
+      let p2 =
+      p
+      ∙ (ap (λ w. lapsed_by (collection_on w) due) collection_still
+      ∙ (ap (lapsed_by (state_on m).collection) d2
+      ∙ sym (collection_other (state_on m).collection e (arrears_by (state_on m).ledger e.day) (omega (arith, k))))) in
+      record { words_are = t.words_are; state_is = ap state_of t.cuts ∙ (λ i. with_service (state_on m) (get_or (q i) 0 0) (p2 i)) }
+
 -- ---- the money
 -- of a payment
 payment_arranged : (a : Arrangement) (e : Event) (owing back : ℕ) → e.kind ≡ payment → arrangement_after a e 0 0 ≡ arrangement_after a e owing back

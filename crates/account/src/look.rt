@@ -89,6 +89,8 @@ fn money_for(account: Known, e: Event) -> Money
     }
 }
 
+// A View is one flat record, as the definitions speak of it; what is read of the debts and of the money is gathered apart, since most kinds
+// look at the money alone.
 fn view_of(service: Service, d: Debts, n: Money) -> View
     ensures { result ≡ view_from service d n }
 {
@@ -124,7 +126,7 @@ pub fn seen(account: Known, e: Event) -> View
 }
 
 // ---- the test
-// Of as many words as an account has: they lie in an array, whose length its type says.
+// Of as many words as an account has: they lie in an array, whose length its type says. `Known` can't ask it, since it is what passed.
 fn money_ok(m: &[u64; WORDS]) -> bool
     ensures { result ≡ money_ok (state_on m.now) }
 {

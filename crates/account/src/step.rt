@@ -33,7 +33,7 @@ fn keep_file(m: &mut [u64], posted: InRange)
 }
 
 // Service, notice and calls, and the day. The arrears after the event are worked out only where a notice could lapse by them.
-pub fn set_service(m: &mut [u64], e: Event)
+fn set_service(m: &mut [u64], e: Event)
     requires { length m.old ≡ account_size }
     ensures { Became m.new (service_after (state_on m.old) e) }
 {

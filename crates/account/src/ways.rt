@@ -1,5 +1,7 @@
 // Payments, bills and fees are most of a book, so they have ways of their own: only their rows are asked, and only the words that
-// they can change are touched. Every other kind goes the general way.
+// they can change are touched. Every other kind goes the general way, on which a book of these takes 2.0 to 2.6 times as long as the
+// same rules in place, over the bar of 2. That an event is a payment, or a bill or a fee, stays a clause: `judge` has tested it, and a
+// type for it would be opened again wherever a definition speaks of an event.
 ghost use Rattle.std.specs.Prelude.{◌≡◌, true, ◌<◌, min, length};
 ghost use Rattle.basics.specs.Machine.{largest};
 ghost use Rattle.rules.specs.Kinds.{payment, deposit_asked};
@@ -10,11 +12,26 @@ ghost use Rattle.account.specs.Post.{Judges};
 ghost use Rattle.account.specs.Looks.{Became, Applied, Free, only_item};
 
 use crate::known::Known;
-use crate::spans::{ARRANGEMENT, LEDGER, RECEIPTS, WORDS};
-use crate::step::set_service;
+use crate::spans::{ARRANGEMENT, COLLECTION, DEPOSIT, LAST, LEDGER, RECEIPTS, WORDS};
 use rules::kinds::Kind;
 use rules::refusals::Refusal;
 use rules::{Answer, Event, InRange};
+
+// The day, and the notice, which can only lapse. The arrears are worked out only where there is one. `step::set_service` in its place
+// was tried, with payments stored by `arrangement` as other events are: a book then took 2.0 to 2.1 times as long as the same rules in
+// place, where the bar is 2, and a kept account 5.2, where it is 4.
+fn pass_day(m: &mut [u64], e: Event)
+    requires { (length m.old ≡ account_size) × (e.kind < deposit_asked) }
+    ensures { Became m.new (service_after (state_on m.old) e) }
+{
+    let t = u64::from(e.day);
+    span::store_word(&mut m[LAST..COLLECTION], t);
+    if collection::quiet(&m[COLLECTION..DEPOSIT]) {
+        return;
+    }
+    let due = ledger::arrears(&m[LEDGER..WORDS], t);
+    collection::lapse(&mut m[COLLECTION..DEPOSIT], due);
+}
 
 // ---- payments
 // 19: payments plus deposits moved would pass the limit.
@@ -42,7 +59,7 @@ fn pay(m: &mut [u64], posted: InRange) -> u64
     ensures { let e = posted.event in Applied m.old e (view (state_on m.old) e) m.new result }
 {
     take_payment(m, posted);
-    set_service(m, posted.event);
+    pass_day(m, posted.event);
     receipts::count(&m[RECEIPTS..LEDGER])
 }
 
@@ -58,7 +75,8 @@ pub fn payment(m: &mut [u64], e: Event) -> Answer
 
 // ---- bills and fees
 // The amount of the item: of a bill with the late charge, of a fee by its number. `amounts::charge` says the same of a View, which is
-// not made here. One function for both was tried: then no crate calls `amounts::late_charge`, which callers are promised.
+// not made here. One function for both was tried: then no crate calls the public `amounts::late_charge`, and a test of the gate forbids
+// that.
 fn amount_of(account: Known, e: Event) -> u64
     requires { only_item e ≡ true }
     ensures { result ≡ min (charge_of (view (state_on account.entry.words.now) e) e) largest }
@@ -90,7 +108,7 @@ fn charge_item(m: &mut [u64], e: Event, charge: u64)
     ensures { Applied m.old e (view (state_on m.old) e) m.new 0 }
 {
     ledger::step(&mut m[LEDGER..WORDS], e, Some(charge), 0);
-    set_service(m, e);
+    pass_day(m, e);
 }
 
 pub fn item(m: &mut [u64], e: Event) -> Answer

@@ -1,8 +1,9 @@
 // Collection, in its own words of an account's memory: the service, the newest final notice, and the calls that a
-// disconnection may ask for.
+// disconnection may ask for. Each function takes the slice that an account lends, with its length as a clause: made an array at
+// each call it would be no plainer.
 #![tactic(auto)]
 
-ghost use Rattle.std.specs.Prelude.{◌≡◌, cond, ◌+◌, length};
+ghost use Rattle.std.specs.Prelude.{◌≡◌, cond, ◌+◌, eqb, length};
 ghost use Rattle.rules.specs.declared.Service.{Service as ServiceT};
 ghost use Rattle.rules.specs.History.{within};
 ghost use Rattle.collection.specs.Collection.{service_by, served_after, notice_after, live_by, in_days_by, calls_after, recent_by, called_by, collection_after, watched, concerns, lapsed_by, collection_ok, collection_size, collection_on};
@@ -227,8 +228,16 @@ pub fn watches(w: &[u64], e: Event) -> bool
     e.is(Kind::FinalNotice) | (w[NOTICE_LIVE] == 1)
 }
 
+// Whether there is no notice that an event could make lapse.
+pub fn quiet(w: &[u64]) -> bool
+    requires { length w.now ≡ collection_size }
+    ensures { result ≡ eqb (collection_on w.now).notice.live 0 }
+{
+    w[NOTICE_LIVE] == 0
+}
+
 // An event that is none of collection's can only make a notice lapse.
-fn lapse(w: &mut [u64], arrears: u64)
+pub fn lapse(w: &mut [u64], arrears: u64)
     requires { length w.old ≡ collection_size }
     ensures { collection_on w.new ≡ lapsed_by (collection_on w.old) arrears }
 {

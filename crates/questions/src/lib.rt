@@ -1,4 +1,5 @@
-// What an account answers, asked in any memory. What is no account owes and holds nothing, has no open items and is closed.
+// What an account answers, asked in any memory. What is no account owes and holds nothing, has no open items and is closed: each of these
+// has an answer for any memory, as C has it in one number. Questions for a day can be refused, and say so.
 #![tactic(auto, using(crate::proofs::Asked::asked_is, crate::proofs::Asked::told_is), unfolding(crate::specs::Questions::asked_of))]
 
 mod days;
@@ -46,7 +47,7 @@ pub fn open_count(m: &[u64]) -> u64
     Known::of(m).map_or(0, |a| ledger::sums_of(a.ledger()).open_count)
 }
 
-// The day and the unpaid part of open item i, from 0 in the order posted; both 0 past the last.
+// The day and the unpaid part of open item i, from 0 in the order posted; both 0 past the last: every index has an answer.
 pub fn open_item(m: &[u64], i: usize) -> OpenItem
     ensures { result ≡ get_or (open_in m.now) i no_item }
 {

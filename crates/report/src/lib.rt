@@ -33,7 +33,8 @@ const LINE: usize = 113;
 // Room for every text.
 pub const ROOM: usize = FIRST_LINE + LINE * MOST_ACCOUNTS;
 
-// Where an account stands after its records. What is owed is charged less credits, which may be negative.
+// Where an account stands after its records. What is owed is charged less credits, which may be negative: it is printed from the two,
+// so that no text of a signed number is needed.
 #[derive(Clone, Copy)]
 pub struct Standing {
     // all charges (document 01: C)
