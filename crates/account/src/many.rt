@@ -1,4 +1,5 @@
-// Account i of many that lie one after another in one memory: the others stay as they are.
+// Account i of many that lie one after another in one memory: the others stay as they are. Its place is worked out: tried with
+// `chunks_exact_mut(WORDS).nth(i)`, which leaves open what all of the memory is afterwards.
 ghost use Rattle.account.specs.Many.{LeavesAt};
 
 use crate::{WORDS, post};

@@ -1,6 +1,6 @@
 -- What the library tells: the number that refuses, or a value.
 use Prim.Native.Nat.{ℕ, zero, suc, ◌+◌, ◌≤◌}
-use mathlib.Core.Path.{◌≡◌, refl, sym, ◌∙◌}
+use mathlib.Core.Path.{◌≡◌, refl, sym, ap, ◌∙◌}
 use mathlib.Core.Bool.{Bool, true, false, cond, true≢false}
 use mathlib.Core.List.{List}
 use native.Mathlib.Omega.{arith}
@@ -42,9 +42,13 @@ told_answered n x h small =
     (λ q z. rw q (number_kept n h ∙ told_number n x z))
 
 -- a receipt is far from wrapping
-pub word_small : (a : Answer) → receipt_of a ≤ limit + 1 → amount_word a ≡ answer_word a
+word_small : (a : Answer) → receipt_of a ≤ limit + 1 → amount_word a ≡ answer_word a
 word_small (Ok n) h = omega arith
 word_small (Err r) h = refl
+
+-- so an answer to an event is one word, by what the answer is
+pub word_is : {w : ℕ} {r : Answer} (a : Answer) → w ≡ amount_word r → r ≡ a → receipt_of a ≤ limit + 1 → w ≡ answer_word a
+word_is a p q s = p ∙ (ap amount_word q ∙ word_small a s)
 
 -- ---- for a day
 pub told_word : (a : Result ℕ Refusal) (n c : ℕ) → c ≤ limit → Tells a n c → amount_word a ≡ told n c

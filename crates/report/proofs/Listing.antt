@@ -140,6 +140,9 @@ text_refused b r e =
     let t = told (book_refusal b) r (book_in_table b) e in
     refused_as (book_refusal b) b t.1 ∙ ap refused_text (sym t.0)
 
+pub refused_width : {w n : ℕ} (r : Refusal) → w ≡ width n → n ≡ refusal_number r → w ≡ width (refusal_number r)
+refused_width r p q = p ∙ ap width q
+
 pub refused_length : (n : ℕ) → length (refused_text n) ≡ 14 + width n
 unfolding refused_text
 refused_length n = omega (arith, length-append (ascii "book refused ") (decimal n ++ (10 ∷ [])), length_marked (decimal n) 10, length_decimal n)
