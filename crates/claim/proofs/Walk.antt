@@ -15,7 +15,7 @@ use Rattle.claim.specs.Claim.{accepts, refused_in, Ran}
 use Rattle.claim.proofs.Demand.{demand_3}
 
 -- ---- one more event at the end
-run_more : (m : List ℕ) (xs : List Event) (e : Event) → run m (xs ++ (e ∷ [])) ≡ words_after (run m xs) e
+pub run_more : (m : List ℕ) (xs : List Event) (e : Event) → run m (xs ++ (e ∷ [])) ≡ words_after (run m xs) e
 run_more m [] e = refl
 run_more m (x ∷ xs) e = run_more (words_after m x) xs e
 
