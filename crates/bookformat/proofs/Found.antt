@@ -26,7 +26,7 @@ events_get_d zero p k b h = absurd (not-suc-le-zero h)
 events_get_d (suc n) p zero b h = ap (λ q. event_at q b) (omega arith)
 events_get_d (suc n) p (suc k) b h = events_get_d n (p + 16) k b (le_of_suc-le-suc h) ∙ ap (λ q. event_at q b) (omega arith)
 
-pub record_at_lem : (b : List ℕ) (k : ℕ) → book_refusal b ≡ 0 → k < records b → event_at (base (accounts b) + 16 * k) b ≡ record_of b k
+record_at_lem : (b : List ℕ) (k : ℕ) → book_refusal b ≡ 0 → k < records b → event_at (base (accounts b) + 16 * k) b ≡ record_of b k
 record_at_lem b k z h = rw (decode_parts b z).1 (sym (events_get_d (records b) (base (accounts b)) k b h))
 
 -- where the offset of account i points, and its count
