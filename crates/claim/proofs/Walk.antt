@@ -7,9 +7,9 @@ use native.Mathlib.Omega.{arith}
 use lib.ListN.{length}
 use Rattle.rules.specs.declared.Event.{Event}
 use Rattle.rules.specs.Answer.{Answer}
-use Rattle.account.specs.State.{account_size, fresh_words, passes, Fit}
+use Rattle.account.specs.State.{fresh_words, passes, Fit}
 use Rattle.account.specs.Post.{answer_to, words_after, Judges, Leaves}
-use Rattle.account.proofs.Exits.{passed_size, passed_fit, leaves_judged}
+use Rattle.account.proofs.Exits.{passed_fit, leaves_judged}
 use Rattle.claim.specs.Run.{run, answers}
 use Rattle.claim.specs.Claim.{accepts, refused_in, Ran}
 use Rattle.claim.proofs.Demand.{demand_3}
