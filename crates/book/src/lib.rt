@@ -4,10 +4,11 @@
 
 ghost use Rattle.std.specs.Prelude.{◌≡◌, ◌+◌, ◌*◌, ◌<◌, ◌≤◌, length, Err, MatchResult};
 ghost use Rattle.rules.specs.Answer.{answered};
-ghost use Rattle.bookformat.specs.Book.{most_accounts, accounts, base, record_fine, records_fine, table_fine, header_fine, book_refusal};
+ghost use Rattle.bookformat.specs.Book.{most_accounts, accounts, base, events_at, record_fine, records_fine, table_fine, header_fine, book_refusal};
 ghost use Rattle.bookformat.specs.Answers.{outcome_of};
-ghost use Rattle.bookformat.specs.Finding.{entries, whole_records, record_at, record_of, span_at, IsAccount};
+ghost use Rattle.bookformat.specs.Finding.{entries, whole_records, record_at, record_of, span_at, book_account, IsAccount};
 
+use bookformat::walk::Records;
 use bookformat::{
     HEADER, LONGEST, MOST_ACCOUNTS, RECORD, Span, accounts, base, event_at, kind_fine, records,
     size,
@@ -151,6 +152,15 @@ impl<'a> Book<'a> {
         ensures { IsAccount self.entry.bytes.now i result }
     {
         account(self.bytes, i)
+    }
+
+    // The records of account i, in their order; none past the end.
+    pub fn records_of(self, i: usize) -> Records<'a>
+        ensures { events_at result.left result.at result.bytes.now ≡ book_account self.entry.bytes.now i }
+    {
+        let s = self.account(i);
+        let start = base(self.accounts()) + RECORD * s.first;
+        Records::new(self.bytes, start, s.count)
     }
 
     // Record k, counted over all accounts; a record of kind 0 past the end.

@@ -4,12 +4,11 @@ use mathlib.Core.Bool.{true}
 use mathlib.Core.List.{List, [], ◌∷◌}
 use Prim.Native.Nat.{ℕ, zero, suc, ◌+◌, ◌*◌, ◌-◌, ◌/◌, ◌≤◌, ◌<◌}
 use native.Mathlib.Nat.{not-suc-le-zero, le_of_suc-le-suc}
-use native.Mathlib.Numerals.{add-one}
 use native.Mathlib.Omega.{arith}
 use borrow.Author.Tests.{eqb-true, le-leb}
 use lib.Dec.{eqb}
 use lib.ListN.{length, take, drop, get_or}
-use lib.Seq.{drop-drop, drop-cons}
+use lib.Seq.{drop-drop}
 use Rattle.rules.specs.declared.Event.{Event}
 use Rattle.std.proofs.lemmas.Bool.{and_parts}
 use Rattle.basics.proofs.Cases.{on_lt}
@@ -18,7 +17,7 @@ use Rattle.bookformat.specs.declared.Span.{Span}
 use Rattle.bookformat.specs.Book.{accounts, records, base, table_fine, book_refusal, event_at, events_at, counts_at, split, flat, decode}
 use Rattle.bookformat.specs.Lent.{counts_total}
 use Rattle.bookformat.specs.Facts.{Header}
-use Rattle.bookformat.specs.Finding.{no_event, entries, whole_records, record_at, span_at, record_of, IsAccount}
+use Rattle.bookformat.specs.Finding.{no_event, entries, whole_records, record_at, span_at, record_of, book_account, IsAccount}
 use Rattle.bookformat.proofs.Told.{book_facts}
 use Rattle.bookformat.proofs.Trips.{decode_parts, table_total, length_counts, length_events}
 
@@ -27,7 +26,7 @@ events_get_d zero p k b h = absurd (not-suc-le-zero h)
 events_get_d (suc n) p zero b h = ap (λ q. event_at q b) (omega arith)
 events_get_d (suc n) p (suc k) b h = events_get_d n (p + 16) k b (le_of_suc-le-suc h) ∙ ap (λ q. event_at q b) (omega arith)
 
-pub record_at_lem : (b : List ℕ) (k : ℕ) → book_refusal b ≡ 0 → k < records b → event_at (base (accounts b) + 16 * k) b ≡ record_of b k
+record_at_lem : (b : List ℕ) (k : ℕ) → book_refusal b ≡ 0 → k < records b → event_at (base (accounts b) + 16 * k) b ≡ record_of b k
 record_at_lem b k z h = rw (decode_parts b z).1 (sym (events_get_d (records b) (base (accounts b)) k b h))
 
 -- where the offset of account i points, and its count
@@ -81,10 +80,26 @@ account_at_lem b i s z h f c =
 pub flat_length : (b : List ℕ) → book_refusal b ≡ 0 → length (flat (decode b)) ≡ records b
 flat_length b z = rw (decode_parts b z).1 (length_events (records b) (base (accounts b)) b)
 
--- one record more: what a turn of a loop over an account's records takes
-pub walk_step : (b : List ℕ) (n k : ℕ) → book_refusal b ≡ 0 → k < records b
-    → take (suc n) (drop k (flat (decode b))) ≡ record_of b k ∷ take n (drop (k + 1) (flat (decode b)))
-walk_step b n k z h = rw (add-one, drop-cons (flat (decode b)) k no_event (rw (flat_length b z) h))
+-- ---- the records of an account lie one behind another
+
+events_take : (c n p : ℕ) (b : List ℕ) → c ≤ n → take c (events_at n p b) ≡ events_at c p b
+events_take zero n p b h = refl
+events_take (suc c) zero p b h = absurd (not-suc-le-zero h)
+events_take (suc c) (suc n) p b h = ap (λ l. event_at p b ∷ l) (events_take c n (p + 16) b (le_of_suc-le-suc h))
+
+events_part : (f c n p : ℕ) (b : List ℕ) → f + c ≤ n → take c (drop f (events_at n p b)) ≡ events_at c (p + 16 * f) b
+events_part zero c n p b h = events_take c n p b (omega arith) ∙ ap (λ q. events_at c q b) (omega arith)
+events_part (suc f) c zero p b h = absurd (omega arith)
+events_part (suc f) c (suc n) p b h = events_part f c n (p + 16) b (omega arith) ∙ ap (λ q. events_at c q b) (omega arith)
+
+pub account_events : (b : List ℕ) (i : ℕ) (s : Span) → book_refusal b ≡ 0 → IsAccount b i s
+    → events_at s.count (base (accounts b) + 16 * s.first) b ≡ book_account b i
+account_events b i s z h =
+    sym (events_part s.first s.count (records b) (base (accounts b)) b h.within)
+    ∙ (ap (λ l. take s.count (drop s.first l)) (sym (decode_parts b z).1) ∙ h.events)
+
+pub span_length : (b : List ℕ) (i : ℕ) (s : Span) → book_refusal b ≡ 0 → IsAccount b i s → s.count ≡ length (book_account b i)
+span_length b i s z h = sym (length_events s.count (base (accounts b) + 16 * s.first) b) ∙ ap length (account_events b i s z h)
 
 -- ---- what is answered for any bytes, in an accepted book
 
@@ -124,3 +139,9 @@ account_of_lem b i z =
 
 pub account_told : (b : List ℕ) (i : ℕ) (s : Span) → s ≡ span_at b i → (s ≡ span_at b i) × (book_refusal b ≡ 0 → IsAccount b i s)
 account_told b i s e = (e, λ z. rw e (account_of_lem b i z))
+
+-- far from wrapping a count of them
+pub account_small : (b : List ℕ) (i : ℕ) → book_refusal b ≡ 0 → length (book_account b i) ≤ 268435455
+account_small b i z =
+    let h = account_of_lem b i z in
+    omega (arith, span_length b i (span_at b i) z h, h.within, h.small)

@@ -6,3 +6,4 @@ pub mod Found
 pub mod Samples
 pub mod Back
 pub mod Forth
+pub mod Loops

@@ -1,12 +1,12 @@
 -- What the stores of a whole list leave in lent memory.
 use mathlib.Core.Bool.{true}
 use mathlib.Core.Path.{◌≡◌, refl, sym, ap, ◌∙◌}
-use mathlib.Core.List.{List, map}
+use mathlib.Core.List.{List, [], ◌∷◌, ◌++◌, map}
 use Prim.Native.Nat.{ℕ, zero, suc, ◌+◌, ◌*◌, ◌≤◌}
 use native.Mathlib.Omega.{arith}
 use borrow.Author.Tests.{leb-true}
 use lib.Dec.{leb}
-use lib.ListN.{length, get_or, length-map}
+use lib.ListN.{length, get_or, set, length-map}
 use lib.Seq.{sets}
 use Rattle.rules.specs.declared.Event.{Event}
 use Rattle.rules.specs.Kinds.{closing}
@@ -15,8 +15,9 @@ use Rattle.rules.specs.Refusals.{refusal_number}
 use Rattle.rules.proofs.Numbered.{answered_ok}
 use Rattle.std.specs.Prelude.{Ok, Err}
 use Rattle.std.proofs.lemmas.Bool.{and_parts}
+use Rattle.std.proofs.lemmas.List.{map-append}
 use Rattle.little.specs.Little.{top, Under}
-use Rattle.little.proofs.Stores.{sets_front}
+use Rattle.little.proofs.Stores.{sets_front, sets_then}
 use Rattle.bookformat.specs.Book.{longest, kind_fine, book_refusal, accounts, records, base, events_at, counts_at, decode, book_of, encode}
 use Rattle.bookformat.specs.Lent.{after, kinds_fine, write_refusal, read_refusal, lent, lent_list, counts_total, kinds_of, options_of, days_of, amounts_of, Left, Gave, WroteBook}
 use Rattle.bookformat.specs.Facts.{Storable, WriteRoom, Fits}
@@ -42,6 +43,12 @@ wrote_all cs ks os ds ms old s =
 field_front : (f : Event → ℕ) (es : List Event) (r : ℕ) (old new : List ℕ) → length es ≡ r → r ≤ length old → new ≡ sets old 0 (map f es)
     → new ≡ after 0 (map f es) old
 field_front f es r old new n h e = e ∙ sets_front (map f es) old (omega (arith, length-map es f))
+
+-- and one store more
+pub field_more : (f : Event → ℕ) (es : List Event) (e : Event) (i : ℕ) (old new : List ℕ) → i ≡ length es → new ≡ sets old 0 (map f es)
+    → set new i (f e) ≡ sets old 0 (map f (es ++ (e ∷ [])))
+field_more f es e i old new h s =
+    sets_then (map f es) (f e ∷ []) old new 0 i s (omega (arith, length-map es f)) ∙ ap (sets old 0) (sym (map-append f es (e ∷ [])))
 
 -- the stores of all counts and all fields from index 0 leave the list, and the old tails
 pub gave_all : (b cs ks os ds ms cs2 ks2 os2 ds2 ms2 : List ℕ) → Fits b (length cs) (length ks) (length os) (length ds) (length ms)

@@ -2,6 +2,8 @@
 // and sizes, the header and one record; the code for whole books is in `book`, `bookread` and `bookwrite`.
 #![tactic(auto)]
 
+pub mod walk;
+
 ghost use Rattle.std.specs.Prelude.{◌≡◌, ◌+◌, ◌<◌, ◌≤◌, length};
 ghost use Rattle.bookformat.specs.Book.{accounts, records, base, size, kind_fine, event_at};
 

@@ -1,2 +1,1 @@
-pub mod Posting
 pub mod Noting

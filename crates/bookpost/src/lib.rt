@@ -12,7 +12,6 @@ ghost use Rattle.bookpost.specs.BookHistory.{numbers_of, owed_from, history_refu
 
 use account::{Account, judge};
 use book::Book;
-use bookformat::{RECORD, base, event_at};
 use lent::post_through;
 use rules::Answer;
 use rules::refusals::{Refusal, number_of};
@@ -29,11 +28,8 @@ pub fn run_account(book: Book, i: usize, m: &mut [u64]) -> u64
     requires { m.old ≡ fresh_words }
     ensures { Ran m.new result (book_account book.entry.bytes.now i) }
 {
-    let s = book.account(i);
-    let start = base(book.accounts());
     let mut refused: u64 = 0;
-    for k in s.first..s.first + s.count {
-        let e = event_at(book.bytes, start + RECORD * k);
+    for e in book.records_of(i) {
         let answer = judge(m, e);
         refused += refusals(answer);
     }
@@ -45,10 +41,9 @@ fn note_account(book: Book, i: usize, numbers: &mut [u8], owed: &mut [i64])
     requires { (length (book_account book.bytes.now i) ≤ length numbers.old) × (length (book_account book.bytes.now i) ≤ length owed.old) }
     ensures { let es = book_account book.entry.bytes.now i in (numbers.new ≡ sets numbers.old 0 (numbers_of es)) × (owed.new ≡ sets owed.old 0 (owed_from [] es)) }
 {
-    let s = book.account(i);
     let mut account = Account::fresh();
-    for at in 0..s.count {
-        let p = post_through(account, book.record(s.first + at));
+    for (at, e) in book.records_of(i).enumerate() {
+        let p = post_through(account, e);
         account = p.account;
         numbers[at] = number_of(p.answer);
         owed[at] = questions::owed(&account.memory);

@@ -11,7 +11,8 @@ ghost use Rattle.bookformat.specs.Facts.{Fits};
 ghost use Rattle.bookread.specs.Memory.{SameSlices};
 ghost use Rattle.bookformat.specs.Answers.{outcome_number, outcome_of};
 
-use bookformat::{RECORD, accounts, base, event_at, records};
+use bookformat::walk::Records;
+use bookformat::{accounts, base, records};
 use little::get;
 use rules::refusals::Refusal;
 
@@ -44,8 +45,8 @@ fn take_counts(b: &[u8], n: usize, counts: &mut [u32])
     requires { (base n ≤ length b.now) × (n ≤ most_accounts) × (n ≤ length counts.old) }
     ensures { counts.new ≡ sets counts.old 0 (counts_at n 8 b.now) }
 {
-    for i in 0..n {
-        counts[i] = get::<4>(b, base(i) + 4) as u32;
+    for (i, count) in counts[..n].iter_mut().enumerate() {
+        *count = get::<4>(b, base(i) + 4) as u32;
     }
 }
 
@@ -66,8 +67,7 @@ fn take_records(
     ensures days_after { days.new ≡ sets days.old 0 (days_of (events_at n p b.now)) }
     ensures amounts_after { amounts.new ≡ sets amounts.old 0 (amounts_of (events_at n p b.now)) }
 {
-    for i in 0..n {
-        let e = event_at(b, p + RECORD * i);
+    for (i, e) in Records::new(b, p, n).enumerate() {
         kinds[i] = e.kind;
         options[i] = e.option;
         days[i] = e.day;

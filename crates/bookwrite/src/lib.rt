@@ -104,7 +104,7 @@ fn put_record(out: &mut [u8], p: usize, e: Event)
     put::<8>(out, p + 8, e.amount);
 }
 
-// Every record, from byte p on.
+// Every record, from byte p on. The other fields are read at the index of the first, since a zip of four iterators is no plainer.
 fn put_records(list: LentList, out: &mut [u8], p: usize)
     requires { (length list.options.now ≡ length list.kinds.now) × (length list.days.now ≡ length list.kinds.now) × (length list.amounts.now ≡ length list.kinds.now) × (p + 16 * length list.kinds.now ≤ length out.old) }
     ensures { let l = list.entry in out.new ≡ sets out.old p (body (lent (length l.kinds.now) 0 l.kinds.now l.options.now l.days.now l.amounts.now)) }

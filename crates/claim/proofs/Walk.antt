@@ -7,15 +7,15 @@ use native.Mathlib.Omega.{arith}
 use lib.ListN.{length}
 use Rattle.rules.specs.declared.Event.{Event}
 use Rattle.rules.specs.Answer.{Answer}
-use Rattle.account.specs.State.{account_size, fresh_words, passes, Fit}
+use Rattle.account.specs.State.{fresh_words, passes, Fit}
 use Rattle.account.specs.Post.{answer_to, words_after, Judges, Leaves}
-use Rattle.account.proofs.Exits.{passed_size, passed_fit, leaves_judged}
+use Rattle.account.proofs.Exits.{passed_fit, leaves_judged}
 use Rattle.claim.specs.Run.{run, answers}
 use Rattle.claim.specs.Claim.{accepts, refused_in, Ran}
 use Rattle.claim.proofs.Demand.{demand_3}
 
 -- ---- one more event at the end
-run_more : (m : List ℕ) (xs : List Event) (e : Event) → run m (xs ++ (e ∷ [])) ≡ words_after (run m xs) e
+pub run_more : (m : List ℕ) (xs : List Event) (e : Event) → run m (xs ++ (e ∷ [])) ≡ words_after (run m xs) e
 run_more m [] e = refl
 run_more m (x ∷ xs) e = run_more (words_after m x) xs e
 

@@ -7,7 +7,7 @@ use lib.ListN.{length, set, drop}
 use lib.Seq.{sets, sets-eq}
 
 -- stores of one list after another
-pub sets_append : (x y l : List ℕ) (i : ℕ) → sets l i (x ++ y) ≡ sets (sets l i x) (i + length x) y
+pub sets_append : {A : Type 0} (x y l : List A) (i : ℕ) → sets l i (x ++ y) ≡ sets (sets l i x) (i + length x) y
 sets_append [] y l i = ap (λ k. sets l k y) (omega arith)
 sets_append (a ∷ x) y l i = sets_append x y (set l i a) (suc i) ∙ ap (λ k. sets (sets (set l i a) (suc i) x) k y) (omega arith)
 
@@ -18,5 +18,5 @@ sets_front new old h =
     sets-eq new old 0 (omega arith) ∙ ap (λ k. new ++ drop k old) z
 
 -- what a store of x, then a store of y just past it, leave
-pub sets_then : (x y o o2 : List ℕ) (p q : ℕ) → o2 ≡ sets o p x → q ≡ p + length x → sets o2 q y ≡ sets o p (x ++ y)
+pub sets_then : {A : Type 0} (x y o o2 : List A) (p q : ℕ) → o2 ≡ sets o p x → q ≡ p + length x → sets o2 q y ≡ sets o p (x ++ y)
 sets_then x y o o2 p q e f = rw (e, f) (sym (sets_append x y o p))

@@ -1,5 +1,6 @@
 use Rattle.std.proofs.Common.{◌∙◌}
-use Rattle.bookpost.proofs.Noting.{span_length, row_22}
+use Rattle.bookformat.proofs.Found.{span_length}
+use Rattle.bookpost.proofs.Noting.{row_22}
 use Rattle.bookpost.proofs.check_history.Goals as goal
 
 pub returns : goal.returns

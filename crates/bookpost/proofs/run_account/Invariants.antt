@@ -1,6 +1,5 @@
-use Rattle.std.proofs.Common.{◌-◌}
-use Rattle.bookpost.proofs.Posting.{Turning}
+use Rattle.claim.proofs.Walk.{Walked}
 use Rattle.bookpost.proofs.run_account.Given as goal
 
-abbrev pub invariant-loop-k : goal.invariant-loop-k
-invariant-loop-k l = Turning l.book.bytes.now l.i l.k (l.k-end - l.k) l.m l.refused
+abbrev pub invariant-loop-e : goal.invariant-loop-e
+invariant-loop-e l = Walked l.yielded l.m l.refused

@@ -1,0 +1,52 @@
+// Records of a book that lie one behind another, read in their order: those of one account, or of all.
+#![tactic(auto)]
+
+ghost use Rattle.std.specs.Prelude.{◌≡◌, ◌+◌, ◌*◌, ◌≤◌, length};
+ghost use Rattle.std.specs.Iterator.{YieldsFirst, item_count};
+ghost use Rattle.bookformat.specs.Book.{events_at};
+
+use crate::{RECORD, event_at};
+use rules::Event;
+
+// So many records are left, from byte `at` on.
+#[derive(Drop)]
+pub struct Records<'a> {
+    bytes: &'a [u8],
+    at: usize,
+    left: usize,
+    ghost room: { at + 16 * left ≤ length bytes.now },
+}
+
+impl<'a> Records<'a> {
+    // The n records from byte p on.
+    #[tactic(auto, using(crate::proofs::Trips::length_events))]
+    pub fn new(b: &'a [u8], p: usize, n: usize) -> Records<'a>
+        requires { p + 16 * n ≤ length b.now }
+        ensures events { events_at result.left result.at result.bytes.now ≡ events_at n p b.now }
+        ensures count { length (events_at n p b.now) ≡ n }
+    {
+        Records {
+            bytes: b,
+            at: p,
+            left: n,
+        }
+    }
+}
+
+impl<'a> Iterator for Records<'a> {
+    type Item = Event;
+
+    ghost next_gives = { YieldsFirst (λ s. events_at s.left s.at s.bytes.now) };
+
+    ghost remaining = { item_count (λ s. events_at s.left s.at s.bytes.now) };
+
+    fn next(&mut self) -> Option<Event> {
+        if self.left == 0 {
+            return None;
+        }
+        let e = event_at(self.bytes, self.at);
+        self.at += RECORD;
+        self.left -= 1;
+        Some(e)
+    }
+}
