@@ -4,7 +4,7 @@ use mathlib.Core.Bool.{Bool, true, false, cond, ◌&&◌}
 use mathlib.Core.List.{List, [], ◌∷◌}
 use Prim.Native.Nat.{ℕ, suc, ◌<◌}
 use native.Mathlib.Omega.{arith}
-use Rattle.std.proofs.lemmas.Bool.{and_parts}
+use Rattle.std.proofs.lemmas.Bool.{and_parts, cond_both}
 use Rattle.basics.proofs.Cases.{Each}
 use Rattle.bookformat.specs.Book.{all}
 
@@ -22,5 +22,4 @@ header_passed true x k e = (refl, e)
 header_passed false x k e = absurd (omega arith)
 
 pub either : (b : Bool) (x y n : ℕ) → x < n → y < n → cond b x y < n
-either true x y n h i = h
-either false x y n h i = i
+either b x y n h i = cond_both b x y (λ z. z < n) (λ _. h) (λ _. i)

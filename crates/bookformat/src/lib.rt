@@ -31,7 +31,8 @@ pub struct Span {
     pub count: usize,
 }
 
-// How many accounts the header tells of ..
+// How many accounts the header tells of .. A count of what lies in memory, so a usize: a u32, which would say the bound, would be
+// widened wherever it is used.
 pub fn accounts(b: &[u8]) -> usize
     requires { 8 ≤ length b.now }
     ensures { (result ≡ accounts b.now) × (result < 4294967296) }

@@ -81,10 +81,6 @@ module _ (ns₀ : List ℕ) (os₀ : List ℤ) (es : List Event) (ns : List ℕ)
       }
 
 -- ---- the whole, where no number refuses
--- 22 alone
-pub row_22 : (enough : Bool) → cond {A = Result (Unit {0}) Refusal} (not enough) (Err TooShort) (Ok tt) ≡ answered (cond enough 0 22) (tt {0})
-row_22 true = refl
-row_22 false = refl
 
 history_in_table : (b : List ℕ) (i n m : ℕ) → history_refusal b i n m < length refusals
 history_in_table b i n m =
