@@ -1,5 +1,5 @@
 // Memory that is known to be an account, and the parts that are read of it. Where an account is changed it stays a slice with a
-// clause: between the money and the day of one event its words are no account, so no type could lend them on.
+// clause: that it is an account after a step follows from its whole history, and not from the step, so no type could keep it.
 ghost use Rattle.std.specs.Prelude.{◌≡◌, true, false, length, MatchResult};
 ghost use Rattle.rules.specs.declared.refusals.Refusal.TheVariants.{NoAccount};
 ghost use Rattle.receipts.specs.Receipts.{receipts_on, receipts_size};
@@ -43,6 +43,7 @@ impl<'a> Known<'a> {
         span::word(&self.words[LAST..COLLECTION])
     }
 
+    // One method for each part: a generic one would want the bounds of each span as constants beside the trait.
     pub fn collection(self) -> Collection
         ensures { result ≡ (state_on self.entry.words.now).collection }
     {

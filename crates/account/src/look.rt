@@ -126,7 +126,7 @@ pub fn seen(account: Known, e: Event) -> View
 }
 
 // ---- the test
-// Of as many words as an account has: they lie in an array, whose length its type says. `Known` can't ask it, since it is what passed.
+// It reads an array, whose length its type says, and not a `Known`, which is made of memory that passed.
 fn money_ok(m: &[u64; WORDS]) -> bool
     ensures { result ≡ money_ok (state_on m.now) }
 {

@@ -75,8 +75,8 @@ pub fn payment(m: &mut [u64], e: Event) -> Answer
 
 // ---- bills and fees
 // The amount of the item: of a bill with the late charge, of a fee by its number. `amounts::charge` says the same of a View, which is
-// not made here. One function for both was tried: then no crate calls the public `amounts::late_charge`, and a test of the gate forbids
-// that.
+// not made here. One function for both was tried: then no other crate calls `amounts::late_charge`, which a test of the gate forbids of a
+// public function, and made private it would be a promise less.
 fn amount_of(account: Known, e: Event) -> u64
     requires { only_item e ≡ true }
     ensures { result ≡ min (charge_of (view (state_on account.entry.words.now) e) e) largest }

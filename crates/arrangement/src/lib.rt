@@ -22,7 +22,8 @@ const PAID: usize = 3;
 
 const RETURNED: usize = 4;
 
-// Where there is none, all is 0: these are words of memory, whose layout is fixed, and an arrangement in no parts is in force on no day.
+// Where there is none, day, parts and debt are 0: these are words of memory, whose layout is fixed, and an arrangement in no parts is in
+// force on no day.
 #[derive(Clone, Copy)]
 pub struct Arrangement {
     pub day: u64,
@@ -119,6 +120,7 @@ impl Part for Arrangement {
 
 // An accepted event, in place, with the arrears and the payment as `after` takes them. Of a payment, which is common, one word
 // changes: by `change` a book misses the bar of speed (account/src/ways.rt). Kinds that do not concern the part touch nothing.
+// The words are lent as every part's (`span::Part`).
 pub fn step(w: &mut [u64], posted: InRange, arrears: u64, payment: u64)
     requires { (length w.old ≡ arrangement_size) × ArrangementFit (arrangement_on w.old) × (cond (is returned_payment posted.event) payment 0 ≤ limit) }
     ensures { arrangement_on w.new ≡ arrangement_after (arrangement_on w.old) posted.event arrears payment }

@@ -91,8 +91,8 @@ fn room(b: &[u8]) -> usize
     b.len().saturating_sub(base(accounts(b))) / RECORD
 }
 
-// Record k, counted over all accounts; a record of kind 0 past the end, which no book has: every index has an answer, as was promised
-// before there was a test of it. Of a book that is refused, what lies there.
+// Record k, counted over all accounts; past the end a record of kind 0, which no book has, since every index is promised an answer. Of a
+// book that is refused, what lies there.
 pub fn record(b: &[u8], k: usize) -> Event
     ensures value { result ≡ record_at b.now k }
     ensures in_book { book_refusal b.now ≡ 0 → result ≡ record_of b.now k }

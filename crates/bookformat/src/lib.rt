@@ -31,8 +31,8 @@ pub struct Span {
     pub count: usize,
 }
 
-// How many accounts the header tells of .. A count of what lies in memory, so a usize: a u32, which would say the bound, would be
-// widened wherever it is used.
+// How many accounts the header tells of, and how many records. They count what lies in memory, so each is a usize: a u32, which would
+// say the bound, would be widened wherever it is used.
 pub fn accounts(b: &[u8]) -> usize
     requires { 8 ≤ length b.now }
     ensures { (result ≡ accounts b.now) × (result < 4294967296) }
@@ -40,7 +40,6 @@ pub fn accounts(b: &[u8]) -> usize
     get::<4>(b, 0) as usize
 }
 
-// .. and how many records.
 pub fn records(b: &[u8]) -> usize
     requires { 8 ≤ length b.now }
     ensures { (result ≡ records b.now) × (result < 4294967296) }

@@ -36,7 +36,8 @@ pub fn run_account(book: Book, i: usize, m: &mut [u64]) -> u64
     refused
 }
 
-// Notes the answer to each record of account i and what is owed after it, from the start of both slices on.
+// Notes the answer to each record of account i and what is owed after it, from the start of both slices on, at the index of the record: a
+// zip with both is no plainer, and C lends them as two.
 fn note_account(book: Book, i: usize, numbers: &mut [u8], owed: &mut [i64])
     requires { (length (book_account book.bytes.now i) ≤ length numbers.old) × (length (book_account book.bytes.now i) ≤ length owed.old) }
     ensures { let es = book_account book.entry.bytes.now i in (numbers.new ≡ sets numbers.old 0 (numbers_of es)) × (owed.new ≡ sets owed.old 0 (owed_from [] es)) }

@@ -50,8 +50,8 @@ fn take_counts(b: &[u8], n: usize, counts: &mut [u32])
     }
 }
 
-// The n records from byte p on, each field into its slice. Slices, since a loop over the lent struct would have to keep the
-// length and the identity of each of its slices, which is no plainer.
+// The n records from byte p on, each field into its slice, at the index of the record: a zip with four slices is no plainer. Slices, since
+// a loop over the lent struct would have to keep the length and the identity of each of its slices, which is no plainer.
 fn take_records(
     b: &[u8],
     p: usize,

@@ -1,5 +1,5 @@
 // Books written from lent memory. All is tested before the first byte is stored; then one pass stores the book. What stores takes
-// the output and a place: a struct of both would be lent again at each number, under the same clause.
+// the output and a place: a struct of both would be lent again at each number, and its clauses would have to say that it holds the same bytes.
 #![tactic(auto)]
 
 ghost use Rattle.std.specs.Prelude.{◌≡◌, [], ◌∷◌, ◌++◌, ◌+◌, ◌*◌, ◌<◌, ◌≤◌, length};
@@ -16,7 +16,7 @@ use little::put;
 use rules::Event;
 use rules::refusals::Refusal;
 
-// An account list in lent memory: how many records each account has in counts, the records of all accounts, one after
+// An account list in memory, five slices as C lends them: how many records each account has in counts, the records of all accounts, one after
 // another, in a slice for each field.
 #[derive(Clone, Copy)]
 pub struct LentList<'a> {

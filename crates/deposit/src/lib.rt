@@ -187,7 +187,7 @@ fn concerns(e: Event) -> bool
     )
 }
 
-// The event is accepted.
+// The event is accepted. The words are lent as every part's (`span::Part`).
 pub fn step(w: &mut [u64], posted: InRange)
     requires w_len { length w.old ≡ deposit_size }
     requires deposit_fit { DepositFit (deposit_on w.old) }

@@ -22,8 +22,8 @@ const VERSION: u64 = 10_100;
 // What is answered from here on is accepted, or told: 256 and the value. Below it stands the number that refuses.
 const ACCEPTED: u64 = 256;
 
-// An answer as a number: 256 and the value, or the number that refuses. The sum stops at the largest number, which only words reach
-// that the library did not leave so.
+// An answer as a number: 256 and the value, or the number that refuses. The sum stops at the largest number, which no account comes near
+// whose memory the library alone has changed.
 fn word_of(answer: Result<u64, Refusal>) -> u64
     ensures { result ≡ amount_word answer }
 {

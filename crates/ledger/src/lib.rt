@@ -1,8 +1,8 @@
 // The ledger of an account, in its own words of the account's memory: what was charged, credited and paid out, and the items
 // that are open. Item k, counted from 0 over all charges, stands at place k mod 64 with its day and the sum of the charges up to
 // it (document 01: C_k). These sums rise, so what is paid is always the oldest: `closed` counts it, and no place changes.
-// What is read is defined for any words, so that the test need not look through the places. No `Part`: a step changes a word or
-// two in place.
+// What is read is defined for any words, so that the test need not look through the places. No `Part`: a step changes a few
+// words in place.
 #![tactic(auto)]
 
 ghost use Rattle.std.specs.Prelude.{◌≡◌, ◌+◌, ◌-◌, ◌≤◌, ◌<◌, min, is_some, unwrap_or, length, get_or};
@@ -201,8 +201,8 @@ fn pay_out(w: &mut [u64; WORDS], amount: u64)
     w[PAID_OUT] = paid;
 }
 
-// The step of an accepted event: the item that it adds, so much, if it adds one, and what it credits; a credit of 0 is none, as
-// it moves nothing. It does one thing at most, and an event that does none touches no word.
+// The step of an accepted event: the amount of the item that it adds, if it adds one, and what it credits; a credit of 0 moves
+// nothing, so that it is none. An event does one thing at most, and one that does none touches no word.
 #[tactic(auto, using(crate::proofs::ByKind::on_charge, crate::proofs::ByKind::on_credit, crate::proofs::ByKind::on_payout, crate::proofs::ByKind::on_other))]
 pub fn step(w: &mut [u64], e: Event, item: Option<u64>, credit: u64)
     requires w_len { length w.old ≡ ledger_size }

@@ -1,5 +1,5 @@
-// An account changed in place: lent by `&mut`, where the crate `account` takes it by value. The function loads the account whole
-// and hands it to the covered core, so that no rule stands here.
+// An account by `&mut`, as a value that a caller keeps: each function hands it to `Account::post` and stores what comes back, so
+// that no rule stands here.
 #![tactic(auto)]
 
 ghost use Rattle.std.specs.Prelude.{◌≡◌};

@@ -27,8 +27,7 @@ pub struct Medical {
     pub approved_to: u64,
 }
 
-// The day past the end of a certificate or an approval; 0 where the event is not the one that is looked for, of which the sum might
-// wrap.
+// The day past the end of a certificate or an approval; 0 of an event that is not wanted, whose amount may be any and would wrap the sum.
 fn end_of(wanted: bool, e: Event) -> u64
     requires { wanted ≡ true → e.amount ≤ certificate_days }
     ensures { result ≡ cond wanted (e.day + e.amount) 0 }
@@ -97,7 +96,7 @@ impl Part for Medical {
     }
 }
 
-// An accepted event, in place. Kinds that do not concern the part touch nothing.
+// An accepted event, in place, in words that are lent as every part's (`span::Part`). Kinds that do not concern the part touch nothing.
 pub fn step(w: &mut [u64], posted: InRange)
     requires { length w.old ≡ medical_size }
     ensures { medical_on w.new ≡ medical_after (medical_on w.old) posted.event }

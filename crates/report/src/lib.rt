@@ -1,4 +1,5 @@
-// The standing of every account of a book, as text in lent memory. The accounts are posted in place, record by record.
+// The standing of every account of a book, as text in lent memory. The accounts are posted in place, record by record. What stores takes the
+// output and a place, as in `text`.
 #![tactic(auto)]
 
 mod line;
@@ -34,7 +35,7 @@ const LINE: usize = 113;
 pub const ROOM: usize = FIRST_LINE + LINE * MOST_ACCOUNTS;
 
 // Where an account stands after its records. What is owed is charged less credits, which may be negative: it is printed from the two,
-// so that no text of a signed number is needed.
+// and no signed number is made.
 #[derive(Clone, Copy)]
 pub struct Standing {
     // all charges (document 01: C)

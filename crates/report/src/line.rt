@@ -8,7 +8,7 @@ use crate::Standing;
 use rules::Service;
 use text::{put_bytes, put_difference, put_number};
 
-// Stores the word of the service and a space.
+// Stores the word of the service and a space. It has no `Display` (`text` says why).
 fn put_word(out: &mut [u8], p: usize, s: Service) -> usize
     requires { p + length (word_of s ++ (32 ∷ [])) ≤ length out.old }
     ensures { Put (word_of s ++ (32 ∷ [])) out.old out.new p result }

@@ -26,7 +26,8 @@ pub struct Event {
     pub amount: u64,
 }
 
-// An event that rows 1 and 3 let pass: its day and its fields are in range. The parts of an account take no other.
+// An event that rows 1 and 3 let pass: its day and its fields are in range. A part whose days
+// or sums could leave their bounds by an event takes no other.
 #[derive(Clone, Copy)]
 pub struct InRange {
     pub event: Event,

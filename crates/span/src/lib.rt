@@ -1,5 +1,5 @@
-// Memory in spans of words: what a store in one span does to the others is a law on lists (proofs/Law.antt). Here is a span of
-// one word.
+// Memory in spans of words: what a store in one span does to the others is a law on lists (proofs/Law.antt). Here is what a part of an
+// account is, and a span of one word.
 #![tactic(auto)]
 
 ghost use Rattle.std.specs.Prelude.{◌≡◌, ℕ, Bool, List, [], ◌∷◌, length, get_or};

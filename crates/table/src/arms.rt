@@ -23,7 +23,7 @@ pub fn credit_rows(credited: u64, credit: u64) -> Result<(), Refusal>
     Refusal::PastLimit.when(LIMIT < credited.saturating_add(credit))
 }
 
-// 7, of a payout and of a deposit paid: the amount is over what `a` has more than `b`.
+// 7, of a payout and of a deposit paid: the amount is more than a less b.
 pub fn over_row(a: u64, b: u64, amount: u64) -> Result<(), Refusal>
     ensures { result ≡ answered (cond (ltb (a - b) amount) 7 0) tt }
 {

@@ -37,7 +37,8 @@ fn row4(v: View, e: Event) -> bool
         & !(e.is(Kind::Payment) | e.is(Kind::ReturnedPayment) | e.is(Kind::Payout))
 }
 
-// 5 to 19, of which each kind has its own; `charge` is the amount of the item that the event makes, 0 where it makes none. A certificate, an approval and a kind that is not known have none.
+// 5 to 19, of which each kind has its own; `charge` is the amount of the item that the event makes; 0 where it makes
+// none, since no row of such a kind asks for it. A certificate, an approval and a kind that is not known have none.
 #[tactic(auto, unfolding(crate::specs::ByKind::from_row5), using(crate::proofs::Equations::passing, crate::proofs::ByKind::of_unknown))]
 fn from_row5(v: View, e: Event, charge: u64) -> Result<(), Refusal>
     requires { charge ≡ min (charge_of v e) largest }
