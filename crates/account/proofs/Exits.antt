@@ -6,16 +6,15 @@ use mathlib.Core.List.{List, [], ◌∷◌}
 use native.Mathlib.Omega.{arith}
 use lib.Dec.{ltb, eqb}
 use lib.ListN.{length}
-use borrow.Author.Tests.{ltb-false, eqb-true, eqb-false, eq-eqb, ne_eqb}
+use borrow.Author.Tests.{eqb-true, eqb-false, eq-eqb}
 use Rattle.std.proofs.lemmas.Bool.{and_parts}
 use Rattle.basics.proofs.Cases.{on, links}
 use Rattle.rules.specs.declared.Event.{Event}
-use Rattle.rules.specs.declared.View.{View}
 use Rattle.std.proofs.Common.{Ok, Err}
 use Rattle.rules.specs.declared.refusals.Refusal.{Refusal}
 use Rattle.rules.specs.declared.refusals.Refusal.TheVariants.{NoAccount}
 use Rattle.rules.specs.Limits.{final_day}
-use Rattle.rules.specs.Range.{in_range, WellFormed}
+use Rattle.rules.specs.Range.{in_range}
 use Rattle.rules.specs.Table.{refusal_by}
 use Rattle.rules.specs.Accepted.{day_rows}
 use Rattle.rules.specs.Answer.{Answer, answered}

@@ -1,18 +1,16 @@
 -- One account of many is posted to: how long its memory stays, what it becomes, and that the others are left.
-use Prim.Native.Nat.{ℕ, ◌+◌, ◌*◌, ◌≤◌, ◌<◌}
+use Prim.Native.Nat.{ℕ, ◌+◌, ◌*◌, ◌≤◌}
 use mathlib.Core.Path.{◌≡◌, refl, sym, ap, ◌∙◌}
 use mathlib.Core.List.{List}
 use native.Mathlib.Omega.{arith}
 use lib.Dec.{eqb}
 use lib.ListN.{length, take, drop, length-set, length-take, length-drop}
-use borrow.Author.Tests.{le-leb, lt-leb}
+use borrow.Author.Tests.{le-leb}
 use Rattle.basics.proofs.Cases.{on, on_le, on_lt}
 use Rattle.span.specs.Span.{put}
 use Rattle.span.proofs.Law.{put_length, put_same, before, after}
 use Rattle.rules.specs.declared.Event.{Event}
 use Rattle.rules.specs.declared.View.{View}
-use Rattle.std.proofs.Common.{Err}
-use Rattle.rules.specs.declared.refusals.Refusal.TheVariants.{NoAccount}
 use Rattle.rules.specs.Answer.{Answer}
 use Rattle.rules.specs.Kinds.{payment, returned_payment}
 use Rattle.rules.specs.History.{is}

@@ -1,12 +1,12 @@
 -- What the proofs of the ways of payments, bills and fees cite: their rows, and the account after their parts' spans came back.
 use Prim.Native.Nat.{ℕ, ◌+◌, ◌-◌, ◌≤◌, ◌<◌, min}
 use mathlib.Core.Path.{◌≡◌, refl, sym, ap, subst, ◌∙◌}
-use mathlib.Core.Bool.{Bool, true, false, cond, ◌&&◌, ◌||◌, and-true, and-false}
+use mathlib.Core.Bool.{true, false, cond, ◌||◌, and-true, and-false}
 use mathlib.Core.List.{List, [], ◌∷◌}
 use mathlib.Core.Logic.{◌⊎◌, inl, inr}
 use native.Mathlib.Omega.{arith}
 use native.Mathlib.Nat.{add-zero}
-use lib.Dec.{leb, eqb}
+use lib.Dec.{eqb}
 use lib.ListN.{length, get_or}
 use borrow.Author.Tests.{eqb-true, ne_eqb, lt-leb}
 use Rattle.basics.specs.Machine.{largest}
@@ -18,19 +18,12 @@ use Rattle.rules.specs.Kinds.{bill, payment, returned_payment, fee, deposit_aske
 use Rattle.rules.specs.History.{is}
 use Rattle.rules.specs.Service.{is_closed}
 use Rattle.rules.specs.Money.{charges, late_charge}
-use Rattle.rules.specs.Fees.{fee_of}
-use Rattle.rules.specs.Limits.{enough}
-use Rattle.std.proofs.Common.{Result, Ok, Err}
-use Rattle.rules.specs.declared.refusals.Refusal.{Refusal}
-use Rattle.rules.specs.declared.refusals.Refusal.TheVariants.{Closed}
-use Rattle.rules.specs.Answer.{answered}
 use Rattle.rules.specs.Table.{charge_of, credit_of, refusal_by}
 use Rattle.rules.proofs.Passed.{allowed}
 use Rattle.rules.proofs.Room.{Room, room}
 use Rattle.table.specs.ByKind.{from_row5, item_rows, credit_rows}
 use Rattle.table.proofs.ByKind.{of_item}
-use Rattle.collection.specs.declared.Collection.{Collection}
-use Rattle.collection.specs.Collection.{collection_size, collection_on, collection_after, service_by, lapsed_by}
+use Rattle.collection.specs.Collection.{collection_size, collection_on, service_by, lapsed_by}
 use Rattle.collection.proofs.Words.{collection_other}
 use Rattle.deposit.specs.Deposit.{concerns}
 use Rattle.deposit.proofs.Words.{deposit_other}

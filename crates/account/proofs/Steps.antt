@@ -1,6 +1,6 @@
 -- What the proofs of an accepted event cite: what each step asks, and the account after the parts' spans came back.
 use Prim.Native.Nat.{ℕ, ◌+◌}
-use mathlib.Core.Path.{◌≡◌, refl, sym, ap, subst, ◌∙◌}
+use mathlib.Core.Path.{◌≡◌, refl, ap, ◌∙◌}
 use mathlib.Core.Bool.{cond}
 use mathlib.Core.List.{List, [], ◌∷◌}
 use native.Mathlib.Omega.{arith}
@@ -22,7 +22,7 @@ use Rattle.table.specs.Seen.{seen_of}
 use Rattle.table.proofs.Seen.{charge_seen, credit_seen, debt_seen, payment_seen}
 use Rattle.collection.specs.Collection.{collection_size, collection_on, collection_after, watched}
 use Rattle.collection.proofs.Words.{collection_watched}
-use Rattle.deposit.specs.Deposit.{deposit_size, deposit_on, deposit_after, DepositFit}
+use Rattle.deposit.specs.Deposit.{deposit_size, deposit_on, deposit_after}
 use Rattle.medical.specs.Medical.{medical_size, medical_on, medical_after}
 use Rattle.arrangement.specs.declared.Arrangement.{Arrangement}
 use Rattle.arrangement.specs.Arrangement.{arrangement_size, arrangement_on, arrangement_after}
@@ -104,11 +104,6 @@ module _ (m : List ℕ) (l : length m ≡ account_size) (e : Event) where
       }
 
 -- ---- the three steps together
--- the money does not touch the deposit
-pub deposit_still : (m a : List ℕ) (e : Event) (v : View) → Became a (money_after (state_on m) e v) → DepositFit (state_on m).deposit
-    → DepositFit (state_on a).deposit
-deposit_still m a e v b f = subst (λ s. DepositFit s.deposit) (sym b.state_is) f
-
 pub steps_are : (m a b c : List ℕ) (e : Event) (v : View)
     → Became a (money_after (state_on m) e v) → Became b (file_after (state_on a) e) → Became c (service_after (state_on b) e) → Became c (applied (state_on m) e v)
 unfolding applied

@@ -1,11 +1,8 @@
 -- Laws of lists: what is read where the default was put, what every element has.
-use Prim.Native.Nat.{ℕ, zero, suc, ◌<◌}
+use Prim.Native.Nat.{ℕ, zero, suc}
 use mathlib.Core.Path.{◌≡◌, refl}
-use mathlib.Core.Bool.{Bool, true}
-use mathlib.Core.List.{List, [], ◌∷◌, ◌++◌}
-use native.Mathlib.Nat.{not-suc-le-zero, le_of_suc-le-suc}
-use lib.ListN.{length, get_or, set}
-use Rattle.std.proofs.lemmas.Bool.{and_parts}
+use mathlib.Core.List.{List, [], ◌∷◌}
+use lib.ListN.{get_or, set}
 
 module _ {A : Type 0} where
   -- the default, put anywhere, is read there, in the list or past it

@@ -1,7 +1,7 @@
 -- An account posted and noted, event by event, and the whole history.
 use Prim.Native.Nat.{ℕ, zero, suc, ◌≤◌, ◌<◌}
 use mathlib.Core.Path.{◌≡◌, refl, sym, ap, ◌∙◌}
-use mathlib.Core.Bool.{Bool, true, false, not, cond, ◌&&◌}
+use mathlib.Core.Bool.{true, cond, ◌&&◌}
 use mathlib.Core.List.{List, [], ◌∷◌, ◌++◌, map}
 use native.Mathlib.Omega.{arith}
 use borrow.Author.Tests.{leb-true}
@@ -9,17 +9,16 @@ use lib.Dec.{leb}
 use lib.IntN.{ℤ}
 use lib.ListN.{length, set, length-map}
 use lib.Seq.{sets}
-use Rattle.std.proofs.Common.{Result, Ok, Err}
+use Rattle.std.proofs.Common.{Err}
 use Rattle.std.proofs.lemmas.Bool.{and_parts}
 use Rattle.std.proofs.lemmas.List.{map-append}
 use Rattle.basics.proofs.Cases.{on}
 use Rattle.rules.specs.declared.refusals.Refusal.{Refusal}
-use Rattle.rules.specs.declared.refusals.Refusal.TheVariants.{TooShort}
 use Rattle.rules.specs.declared.Event.{Event}
 use Rattle.rules.specs.Refusals.{refusal_number, refusals}
 use Rattle.rules.specs.History.{History}
 use Rattle.rules.specs.Money.{owed}
-use Rattle.rules.specs.Answer.{answered, number_of}
+use Rattle.rules.specs.Answer.{number_of}
 use Rattle.rules.specs.Accepted.{offered, accepted, accepted_after, answer, answers_after, answers_by}
 use Rattle.little.proofs.Stores.{sets_front, sets_then}
 use Rattle.bookformat.specs.Lent.{after, or_else}

@@ -1,18 +1,16 @@
 -- A deposit becomes full only by a deposit paid, and while it is full none is paid: so the day of the newest paid is the day on
 -- which a full deposit became full.
-use Prim.Native.Nat.{ℕ, ◌+◌, ◌-◌, ◌≤◌, ◌<◌, zero-le}
+use Prim.Native.Nat.{ℕ, ◌+◌, ◌≤◌, ◌<◌, zero-le}
 use mathlib.Core.Path.{◌≡◌, refl, sym, ◌∙◌}
 use mathlib.Core.Bool.{true, false, cond, true≢false}
 use mathlib.Core.List.{[], ◌∷◌}
 use native.Mathlib.Omega.{arith}
 use Rattle.basics.proofs.Cases.{on, on_eq}
 use Rattle.rules.specs.declared.Event.{Event}
-use Rattle.rules.specs.declared.View.{View}
 use Rattle.rules.specs.Kinds.{deposit_asked, deposit_paid}
 use Rattle.rules.specs.Limits.{final_day}
 use Rattle.rules.specs.History.{History, is}
 use Rattle.rules.specs.Deposit.{moves, held, required, full, full_on}
-use Rattle.rules.specs.Table.{row7}
 use Rattle.rules.specs.Accepted.{view_of, Lawful}
 use Rattle.rules.proofs.Sums.{total_since, newest_since}
 use Rattle.rules.proofs.Ranged.{ranged}

@@ -1,5 +1,5 @@
 -- The part and its words: each is all of the other.
-use Prim.Native.Nat.{ℕ, max}
+use Prim.Native.Nat.{ℕ}
 use mathlib.Core.Path.{◌≡◌, sym}
 use mathlib.Core.Bool.{false, ◌||◌}
 use mathlib.Core.List.{List}

@@ -3,11 +3,10 @@ use Prim.Native.Nat.{ℕ, ◌≤◌}
 use mathlib.Core.Path.{◌≡◌, subst}
 use mathlib.Core.Bool.{true}
 use lib.ListN.{get_or}
-use borrow.Author.Tests.{eqb-true}
 use Rattle.std.proofs.lemmas.Bool.{and_parts}
 use Rattle.rules.specs.declared.Event.{Event}
 use Rattle.rules.specs.declared.Fields.{Fields}
-use Rattle.rules.specs.History.{is, within}
+use Rattle.rules.specs.History.{within}
 use Rattle.rules.specs.Range.{unknown, fields, fits, in_range}
 use Rattle.rules.proofs.Days.{within_true}
 

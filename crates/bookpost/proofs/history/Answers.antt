@@ -1,6 +1,6 @@
 use Rattle.std.proofs.Common.{length}
 use Rattle.rules.proofs.Numbered.{answered_ok, handed_on}
-use Rattle.bookpost.proofs.Noting.{book_first, history_room, history_told, history_none}
+use Rattle.bookpost.proofs.Noting.{book_first, history_told, history_none}
 use Rattle.bookpost.specs.BookHistory.{history_refusal}
 use Rattle.bookpost.proofs.history.Goals as goal
 
@@ -8,18 +8,6 @@ pub returns-in_err-book-clause-told_history : goal.returns-in_err-book-clause-to
 returns-in_err-book-clause-told_history c =
     let left = handed_on _ c.from_residual.ensures.1 in
     rw left (history_none _ _ _ _ _ (book_first _ _ _ c.in_err-book.ensures))
-
-pub returns-in_err-check_history-clause-told_history : goal.returns-in_err-check_history-clause-told_history
-returns-in_err-check_history-clause-told_history c =
-    let left = handed_on _ c.from_residual-in_err-check_history.ensures.1 in
-    rw (left, ← c.in_ok-book.ensures) (history_none _ _ _ _ _ c.in_err-check_history.ensures)
-
-pub note_account-requires : goal.note_account-requires
-note_account-requires c =
-    let a = c.args in
-    let b = c.in_ok-book.book.bytes.now in
-    history_room b a.i a.numbers.now a.owed.now
-    (answered_ok (history_refusal b a.i (length a.numbers.now) (length a.owed.now)) _ _ c.in_ok-check_history.ensures).0
 
 pub returns-clause-told_history : goal.returns-clause-told_history
 returns-clause-told_history c =

@@ -1,4 +1,4 @@
-use Rattle.std.proofs.Common.{sym, refl, ap, ◌∙◌}
+use Rattle.std.proofs.Common.{ap, ◌∙◌}
 use Rattle.rules.specs.Table.{refusal_by}
 use Rattle.rules.proofs.Numbered.{answered_ok, answered_err, handed_on}
 use Rattle.table.proofs.Seen.{refusal_seen}

@@ -1,16 +1,8 @@
 use Rattle.std.proofs.Common.{◌≡◌, cond, sym, ◌∙◌}
 use Rattle.rules.specs.Kinds.{payment}
 use Rattle.rules.specs.History.{is}
-use Rattle.account.proofs.Steps.{deposit_still, steps_are, receipt_by}
+use Rattle.account.proofs.Steps.{steps_are, receipt_by}
 use Rattle.account.proofs.step.apply.Goals as goal
-
-pub keep_file-requires : goal.keep_file-requires
-keep_file-requires c =
-    let s = c in (
-      c.move_money.ensures.words_are,
-      deposit_still s.args.m.now c.move_money.new.m s.args.posted.event s.args.offer.view c.move_money.ensures
-          s.requires.fit.fit.deposit_fit,
-    )
 
 pub returns-then-is : goal.returns-then-is
 returns-then-is c =

@@ -4,18 +4,13 @@ use Rattle.account.proofs.Steps.{passing_room, item_exact, money_room, receipts_
 use borrow.Author.Rules.{rules}
 use Rattle.account.proofs.step.move_money.Goals as goal
 
-pub step-requires : goal.step-requires
-step-requires c =
+pub step-requires-clause-ledger_room : goal.step-requires-clause-ledger_room
+step-requires-clause-ledger_room c =
     let a = c.args in
     let e = a.posted.event in
     let p = c.requires in
-    record {
-      w_len = search rules;
-      ledger_fit = p.fit.fit.ledger_fit;
-      ledger_room =
-          rw (c.credit-credit.ensures, item_exact a.m.now e a.offer.view a.offer.item p)
-          (item_room _ e _ _ _ (money_room a.m.now e a.offer.view a.offer.item p));
-    }
+    rw (c.credit-credit.ensures, item_exact a.m.now e a.offer.view a.offer.item p)
+    (item_room _ e _ _ _ (money_room a.m.now e a.offer.view a.offer.item p))
 
 pub step-requires-2 : goal.step-requires-2
 step-requires-2 c =

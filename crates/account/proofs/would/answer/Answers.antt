@@ -1,6 +1,6 @@
-use Rattle.rules.proofs.Numbered.{handed_on, answered_err}
+use Rattle.rules.proofs.Numbered.{handed_on}
 use Rattle.account.specs.State.{state_on}
-use Rattle.account.specs.Post.{refusal_at, receipt_at, answer_at}
+use Rattle.account.specs.Post.{receipt_at, answer_at}
 use Rattle.account.proofs.Exits.{refused_first, refused_rest, passed_rest}
 use Rattle.account.proofs.would.answer.Goals as goal
 

@@ -1,4 +1,3 @@
-use Rattle.std.proofs.Common.{sym, ◌∙◌}
 use Rattle.rules.proofs.Numbered.{handed_on}
 use Rattle.account.proofs.Exits.{answers_passed, answers_failed}
 use Rattle.account.proofs.would.would_answer.Goals as goal
