@@ -42,7 +42,7 @@ fn check_credit(account: Known, e: Event) -> Result<(), Refusal>
     table::credit_rows(ledger::sums_of(account.ledger()).credited, e.amount)
 }
 
-// The money of a payment.
+// The money of a payment. The arrears and the payment that `arrangement` is told concern other kinds.
 fn take_payment(m: &mut [u64], posted: InRange)
     requires { let e = posted.event in Free m.old e × (e.kind ≡ payment) }
     ensures { let e = posted.event in Became m.new (money_after (state_on m.old) e (view (state_on m.old) e)) }

@@ -15,7 +15,8 @@ pub use fees::{fee, late_charge};
 use rules::kinds::Kind;
 use rules::{Event, View};
 
-// The amount of the item that the event makes, if it makes one; the largest number where the amount is more.
+// The amount of the item that the event makes, if it makes one; the largest number where the amount is more. `account::ways::amount_of` says
+// why it works out the same of fewer words.
 pub fn charge(v: View, e: Event) -> Option<u64>
     ensures { result ≡ then_some (makes_item e) (min (charge_of v e) largest) }
 {

@@ -1,4 +1,5 @@
 -- Case analysis on tests, for every crate: a Bool or a comparison by cases with what each case shows, and what a compound test says of its parts.
+-- Each case is handed its equation here; the library's cases are a sum to take apart, which is no plainer.
 use Prim.Native.Nat.{ℕ, ◌≤◌, ◌<◌}
 use mathlib.Core.Path.{◌≡◌, refl, sym}
 use mathlib.Core.Bool.{Bool, true, false, cond, ◌&&◌, ◌||◌}

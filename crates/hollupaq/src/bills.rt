@@ -1,4 +1,4 @@
-// The bill of a reading, in plain numbers.
+// The bill of a reading, in plain numbers: the class and the usage too, as C has them.
 ghost use Rattle.std.specs.Prelude.{◌≡◌, get_or};
 ghost use Rattle.rules.specs.Tariff.{cents_of, bill_refusal, bill_lines, no_line};
 ghost use Rattle.hollupaq.specs.Library.{told};

@@ -62,7 +62,8 @@ pub struct Item {
     pub upto: u64,
 }
 
-// What the table looks at when one event is offered. An account makes one of its fields, the rules one of the history.
+// What the table looks at when one event is offered, flat, as the definitions speak of it. An account makes one of its fields, the rules
+// one of the history.
 #[derive(Clone, Copy)]
 pub struct View {
     pub service: Service,

@@ -169,7 +169,7 @@ pub fn bill(class: u8, usage: u64) -> Result<u64, Refusal>
     Ok(Metered::of(class, usage)?.cents())
 }
 
-// Line i of that bill, counted from 0: a line for each block. Past the last, and where the bill is refused, one of no kilowatt-hours.
+// Line i of that bill, counted from 0, of a class and a usage as C has them too: a line for each block. Past the last, and where the bill is refused, one of no kilowatt-hours.
 pub fn bill_line(class: u8, usage: u64, i: usize) -> Line
     ensures { result ≡ get_or (bill_lines class usage) i no_line }
 {
