@@ -41,9 +41,12 @@ pub fn fee_number(e: Event) -> u64
     }
 }
 
-// Three quarters of one per cent of what is owed, fractions dropped: 3 × owed div 400, by parts, so that no product wraps.
+// Three quarters of one per cent of what is owed, as the fee page puts it: times 3, then a quarter, then a hundredth, fractions
+// dropped at both divisions. Three times a u64 may be more than one holds, a quarter of that never is.
 pub fn late_charge(owed: u64) -> u64
     ensures { result ≡ late_charge owed }
 {
-    owed / 400 * 3 + owed % 400 * 3 / 400
+    let three_times = 3 * u128::from(owed);
+    let quarter = (three_times / 4) as u64;
+    quarter / 100
 }

@@ -4,6 +4,6 @@ use mathlib.Core.Path.{◌≡◌}
 use native.Mathlib.Omega.{arith}
 use Rattle.rules.specs.Money.{late_charge}
 
--- the fee page's three steps, times 3, a quarter, a hundredth, show the cents of the one division
-pub same_cents : (owed : ℕ) → 3 * owed / 4 / 100 ≡ late_charge owed
+-- every account shows the cents that it showed when the late charge was 3 × owed, div 400
+pub same_cents : (owed : ℕ) → late_charge owed ≡ 3 * owed / 400
 same_cents owed = omega arith

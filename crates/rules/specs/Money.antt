@@ -28,9 +28,9 @@ credits h = credited h - total payout h
 abbrev pub charges : Event → Bool
 charges e = is bill e || is returned_payment e || is fee e || is final_notice e || is reconnection e
 
--- the late charge on what is owed above 0: 3 × owed, div 400
+-- the late charge on what is owed above 0, 3/4 per cent: times 3, a quarter, a hundredth, fractions dropped at both divisions
 abbrev pub late_charge : ℕ → ℕ
-late_charge owed = 3 * owed / 400
+late_charge owed = 3 * owed / 4 / 100
 
 -- the late charge in a bill, of C and P before it; no event but a bill has one
 abbrev pub late_in : ℕ → ℕ → Event → ℕ
