@@ -122,8 +122,8 @@ pub fn charge(before: &[Event], owed: i64, event: Event) -> Option<i64> {
     }
 }
 
-/// By document 01's one division. Document 02 works it in three steps, by which every account shows the same cents: each comparison with the
-/// core tests that too.
+/// By document 01's one division. Document 02 works it in three steps, by which every account shows the same
+/// cents: each comparison with the core tests that too.
 pub fn late_charge(owed: i64) -> i64 {
     if owed > 0 {
         3 * owed / 400
