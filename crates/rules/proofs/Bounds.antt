@@ -6,7 +6,7 @@ use mathlib.Core.List.{[], ◌∷◌}
 use native.Mathlib.Omega.{arith}
 use lib.Dec.{leb, ltb, eqb}
 use lib.ListN.{length, get_or}
-use borrow.Author.Tests.{lt-ltb, ltb-true, ltb-false, leb-false, eqb-false, ne_eqb}
+use borrow.Author.Tests.{lt-ltb, ltb-true, ltb-false, leb-false, eqb-true, eqb-false, ne_eqb}
 use Rattle.std.proofs.lemmas.Bool.{and_parts}
 use Rattle.basics.proofs.Cases.{on, on_eq, picked}
 use Rattle.std.specs.List.{list_all}
@@ -17,7 +17,7 @@ use Rattle.rules.specs.Kinds.{bill, payment, returned_payment, fee, deposit_aske
 use Rattle.rules.specs.Limits.{final_day, most_deposit, limit, grace, known_receipts}
 use Rattle.rules.specs.History.{History, is, within, last_posted, total}
 use Rattle.rules.specs.Fees.{fees, fee_of}
-use Rattle.rules.specs.Receipts.{payments, returned, known, returnable}
+use Rattle.rules.specs.Receipts.{is_at, payments, returned, known, named_payment}
 use Rattle.rules.specs.Deposit.{moves, held, required}
 use Rattle.rules.specs.Money.{credited, credits, charges, charge, charged, due, items, arrears}
 use Rattle.rules.specs.Arrangement.{terms, paid_since, returned_since}
@@ -111,53 +111,61 @@ held_in_lem (e ∷ h) w =
     record { held_le = rw (paid, asked, y) (omega arith); required_le = rw (asked, y) (omega arith) })
     (λ r y. record { held_le = rw (paid, asked, m, q, r) (omega arith); required_le = rw (asked, m, q) k.required_le })))
 
--- ---- receipts
--- the receipt of an accepted return is among the newest 32
-pub record Known (h : History) (r : ℕ) : Type 0 where
-  pub low : 1 ≤ r
-  pub high : r ≤ length (payments h)
-  pub near : length (payments h) < r + known_receipts
+-- ---- receipts, of any till
+-- a payment at a till, or a returned one, is of its kind
+of_till : (till k : ℕ) (e : Event) → is_at till k e ≡ true → e.kind ≡ k
+of_till till k e q = eqb-true e.kind k (and_parts (is k e) (eqb e.option till) q).0
 
-pub return_known : (h : History) (e : Event) → Passed h e → e.kind ≡ returned_payment → Known h e.amount
+-- the receipt of an accepted return is among the newest 16 of its till
+pub record Known (till : ℕ) (h : History) (r : ℕ) : Type 0 where
+  pub low : 1 ≤ r
+  pub high : r ≤ length (payments till h)
+  pub near : length (payments till h) < r + known_receipts
+
+pub return_known : (h : History) (e : Event) → Passed h e → e.kind ≡ returned_payment → Known e.option h e.amount
 return_known h e p z =
-    let n = length (payments h) in
-    let r : eqb (returnable h e.amount) 0 ≡ false = rw z at p.allowed.r6 in
-    let k = picked (known h e.amount) _ (eqb-false (returnable h e.amount) 0 r) in
+    let n = length (payments e.option h) in
+    let r : eqb (named_payment h e) 0 ≡ false = rw z at p.allowed.r6 in
+    let k = picked (known e.option h e.amount) _ (eqb-false (named_payment h e) 0 r) in
     let b = (and_parts (within 1 n e.amount && ltb (n - e.amount) known_receipts) _ k).0 in
     let w = within_true 1 n e.amount (and_parts (within 1 n e.amount) _ b).0 in
     record { low = w.0; high = w.1; near = omega (arith, ltb-true (n - e.amount) known_receipts (and_parts (within 1 n e.amount) _ b).1) }
 
--- no receipt past the count was returned
-pub not_yet : (h : History) → Lawful h → (r : ℕ) → length (payments h) < r → returned h r ≡ false
-not_yet [] w r p = refl
-not_yet (e ∷ h) w r p =
-    on_eq e.kind returned_payment
-    (λ q z. let c = return_known h e (passed h e w.0) z in
-    let p' : length (payments h) < r = rw z at p in
-    rw (q, ne_eqb e.amount r (omega arith)) (not_yet h w.1 r p'))
-    (λ q z. rw q (not_yet h w.1 r (on (is payment e) (λ t. let p' = (rw t at p) in omega arith) (λ t. rw t at p))))
+-- no receipt past a till's count was returned
+pub not_yet : (till : ℕ) (h : History) → Lawful h → (r : ℕ) → length (payments till h) < r → returned till h r ≡ false
+not_yet till [] w r p = refl
+not_yet till (e ∷ h) w r p =
+    let l : length (payments till h) < r = on (is_at till payment e) (λ t. let p' = (rw t at p) in omega arith) (λ t. rw t at p) in
+    on (is_at till returned_payment e)
+    (λ q.
+    let s = eqb-true e.option till (and_parts (is returned_payment e) (eqb e.option till) q).1 in
+    let c : Known till h e.amount = rw s at (return_known h e (passed h e w.0) (of_till till returned_payment e q)) in
+    rw (q, ne_eqb e.amount r (omega (arith, c.high))) (not_yet till h w.1 r l))
+    (λ q. rw q (not_yet till h w.1 r l))
 
--- each payment is 1 or more, so there are no more payments than cents
-payments_count : (h : History) → Lawful h → length (payments h) ≤ total payment h
-payments_count [] w = zero-le
-payments_count (e ∷ h) w =
-    let ih = payments_count h w.1 in
+-- each payment is 1 or more, so a till has no more payments than there are cents
+payments_count : (till : ℕ) (h : History) → Lawful h → length (payments till h) ≤ total payment h
+payments_count till [] w = zero-le
+payments_count till (e ∷ h) w =
+    let ih = payments_count till h w.1 in
     let more = total_grows payment (e ∷ h) in
-    on_eq e.kind payment
-    (λ q z. let a = (ranged payment e (passed h e w.0).fields_fit z).amount_low in rw (more, q) (omega arith))
-    (λ q z. rw (more, q) (omega arith))
+    on (is_at till payment e)
+    (λ q.
+    let z = of_till till payment e q in
+    let a = (ranged payment e (passed h e w.0).fields_fit z).amount_low in rw (more, q, z) (omega arith))
+    (λ q. rw (more, q) (omega arith))
 
-pub count_limit : (h : History) → Lawful h → length (payments h) ≤ limit
-count_limit h w = omega (arith, payments_count h w, credited_limit h w)
+pub count_limit : (till : ℕ) (h : History) → Lawful h → length (payments till h) ≤ limit
+count_limit till h w = omega (arith, payments_count till h w, credited_limit h w)
 
 -- every payment is above 0, so that 0 can stand for a receipt that is not known
-payments_above : (h : History) → Lawful h → list_all (ltb 0) (payments h) ≡ true
-payments_above [] w = refl
-payments_above (e ∷ h) w =
-    let ih = payments_above h w.1 in
-    on_eq e.kind payment
-    (λ q z. rw (q, lt-ltb 0 e.amount (ranged payment e (passed h e w.0).fields_fit z).amount_low) ih)
-    (λ q z. rw q ih)
+payments_above : (till : ℕ) (h : History) → Lawful h → list_all (ltb 0) (payments till h) ≡ true
+payments_above till [] w = refl
+payments_above till (e ∷ h) w =
+    let ih = payments_above till h w.1 in
+    on (is_at till payment e)
+    (λ q. rw (q, lt-ltb 0 e.amount (ranged payment e (passed h e w.0).fields_fit (of_till till payment e q)).amount_low) ih)
+    (λ q. rw q ih)
 
 -- ---- the arrangement
 pub debt_limit : (h : History) → Lawful h → (terms h).debt ≤ limit

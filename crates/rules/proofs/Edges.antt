@@ -8,6 +8,8 @@ use Rattle.rules.proofs.Events.{
   bill,
   payment,
   returned,
+  payment_at,
+  returned_at,
   fee,
   asked_deposit,
   paid,
@@ -89,12 +91,23 @@ ranges =
     ∷ ends "no payment" (payment 0 0 ∷ []) 3
     ∷ ends "largest payment" (payment 0 10000000000 ∷ []) 0
     ∷ ends "payment too large" (payment 0 10000000001 ∷ []) 3
-    ∷ ends "payment with an option" (event 2 0 1 5 ∷ []) 3
+    ∷ ends "payment with an option, which is its till" (event 2 0 1 5 ∷ []) 0
+    ∷ ends "payment at the last till" (payment_at 4 0 5 ∷ []) 0
+    ∷ ends "payment past the last till" (payment_at 5 0 5 ∷ []) 3
+    ∷ ends "payment at no till there could be" (payment_at 255 0 5 ∷ []) 3
+    ∷ ends "no payment at the last till" (payment_at 4 0 0 ∷ []) 3
+    ∷ ends "largest payment at the last till" (payment_at 4 0 10000000000 ∷ []) 0
+    ∷ ends "payment too large at the last till" (payment_at 4 0 10000000001 ∷ []) 3
     ∷ ends "receipt 0" (returned 0 0 ∷ []) 3
     ∷ ends "a receipt over the largest amount" (returned 0 10000000001 ∷ []) 6
     ∷ ends "any receipt is in range" (returned 0 10000000002 ∷ []) 6
     ∷ ends "the largest receipt" (returned 0 18446744073709551615 ∷ []) 6
-    ∷ ends "returned with an option" (event 3 0 1 1 ∷ []) 3
+    ∷ ends "returned with an option, which is its till" (event 3 0 1 1 ∷ []) 6
+    ∷ ends "returned at the last till" (payment_at 4 0 9 ∷ returned_at 4 0 1 ∷ []) 0
+    ∷ ends "returned past the last till" (payment_at 4 0 9 ∷ returned_at 5 0 1 ∷ []) 3
+    ∷ ends "returned at no till there could be" (returned_at 255 0 1 ∷ []) 3
+    ∷ ends "receipt 0 at the last till" (returned_at 4 0 0 ∷ []) 3
+    ∷ ends "the largest receipt at the last till" (returned_at 4 0 18446744073709551615 ∷ []) 6
     ∷ ends "fee 0" (fee 0 0 ∷ []) 3
     ∷ ends "fee 1" (fee 0 1 ∷ []) 0
     ∷ ends "fee 3" (fee 0 3 ∷ []) 0
@@ -198,16 +211,53 @@ receipts =
     ∷ ends "returned twice, another between" (payment 0 9 ∷ payment 0 9 ∷ returned 0 1 ∷ returned 0 2 ∷ returned 0 1 ∷ []) 6
     ∷ ends "a receipt not given yet" (payment 0 9 ∷ returned 0 2 ∷ []) 6
     ∷ ends "nothing but a payment has a receipt" (asked_deposit 0 9 ∷ paid 0 9 ∷ bill 0 9 ∷ fee 0 1 ∷ certificate 0 9 ∷ call 0 ∷ returned 0 1 ∷ []) 6
-    ∷ ends "the oldest of 32" (times 32 (payment 0 9 ∷ []) ++ (returned 0 1 ∷ [])) 0
-    ∷ ends "32 returned, the newest first" (times 33 (payment 0 9 ∷ []) ++ (returned 0 33 ∷ returned 0 32 ∷ returned 0 3 ∷ returned 0 2 ∷ [])) 0
+    ∷ ends "the oldest of 16" (times 16 (payment 0 9 ∷ []) ++ (returned 0 1 ∷ [])) 0
+    ∷ ends "four of 16 returned, the newest first" (times 17 (payment 0 9 ∷ []) ++ (returned 0 17 ∷ returned 0 16 ∷ returned 0 3 ∷ returned 0 2 ∷ [])) 0
     ∷ ends "past the newest 32" (times 33 (payment 0 9 ∷ []) ++ (returned 0 1 ∷ [])) 6
-    ∷ ends "the oldest of the newest 32" (times 33 (payment 0 9 ∷ []) ++ (returned 0 2 ∷ [])) 0
+    ∷ ends "past the newest 16" (times 17 (payment 0 9 ∷ []) ++ (returned 0 1 ∷ [])) 6
+    ∷ ends "the oldest of the newest 16" (times 17 (payment 0 9 ∷ []) ++ (returned 0 2 ∷ [])) 0
     ∷ ends "the newest of 33" (times 33 (payment 0 9 ∷ []) ++ (returned 0 33 ∷ [])) 0
-    ∷ ends "a returned one keeps its place" (times 32 (payment 0 9 ∷ []) ++ (returned 0 5 ∷ payment 0 9 ∷ returned 0 1 ∷ [])) 6
+    ∷ ends "a returned one keeps its place" (times 16 (payment 0 9 ∷ []) ++ (returned 0 5 ∷ payment 0 9 ∷ returned 0 1 ∷ [])) 6
     ∷ shows "the amount of the receipt, the oldest" owed (payment 0 100 ∷ payment 0 200 ∷ payment 0 300 ∷ payout 0 600 ∷ returned 0 1 ∷ []) 2600
     ∷ shows "the amount of the receipt, between" owed (payment 0 100 ∷ payment 0 200 ∷ payment 0 300 ∷ payout 0 600 ∷ returned 0 2 ∷ []) 2700
     ∷ shows "the amount of the receipt, the newest" owed (payment 0 100 ∷ payment 0 200 ∷ payment 0 300 ∷ payout 0 600 ∷ returned 0 3 ∷ []) 2800
     ∷ shows "the largest payment, returned" owed (payment 0 10000000000 ∷ payout 0 10000000000 ∷ returned 0 1 ∷ []) 10000002500
+    ∷ []
+
+-- 40 payments at till 1
+abbrev queue : List Event
+queue = times 40 (payment_at 1 0 9 ∷ [])
+
+abbrev tills : List Case
+tills =
+    shows "the first receipt of another till" receipt (queue ++ (payment_at 2 0 9 ∷ [])) 1
+    ∷ shows "a till's second, another between" receipt (payment_at 3 0 9 ∷ payment 0 9 ∷ payment_at 3 0 9 ∷ []) 2
+    ∷ shows "a till's receipt after its return" receipt (payment_at 4 0 9 ∷ returned_at 4 0 1 ∷ payment_at 4 0 9 ∷ []) 2
+    ∷ shows "a return at a till is no payment there" receipt (payment 0 9 ∷ payment_at 1 0 9 ∷ returned_at 1 0 1 ∷ payment 0 9 ∷ []) 2
+    ∷ shows "no receipt for a return at a till" receipt (payment_at 1 0 9 ∷ returned_at 1 0 1 ∷ []) 0
+    ∷ ends "the 16th newest of a till, another having 40" (times 16 (payment_at 2 0 9 ∷ []) ++ (queue ++ (returned_at 2 0 1 ∷ []))) 0
+    ∷ ends "the 17th newest of a till, another having 40" (times 17 (payment_at 2 0 9 ∷ []) ++ (queue ++ (returned_at 2 0 1 ∷ []))) 6
+    ∷ ends "the 16th newest of the till that has 40" (payment_at 2 0 9 ∷ (queue ++ (returned_at 1 0 25 ∷ []))) 0
+    ∷ ends "the 17th newest of the till that has 40" (payment_at 2 0 9 ∷ (queue ++ (returned_at 1 0 24 ∷ []))) 6
+    ∷ ends "a receipt that another till has given" (queue ++ (returned_at 2 0 40 ∷ [])) 6
+    ∷ ends "one that the till itself has not given yet" (queue ++ (payment_at 2 0 9 ∷ returned_at 2 0 2 ∷ [])) 6
+    ∷ ends "the same number in two tills, each returned once" (payment 0 9 ∷ payment_at 1 0 9 ∷ returned 0 1 ∷ returned_at 1 0 1 ∷ []) 0
+    ∷ ends "the same number in two tills, one returned twice"
+    (payment 0 9 ∷ payment_at 1 0 9 ∷ returned 0 1 ∷ returned_at 1 0 1 ∷ returned_at 1 0 1 ∷ []) 6
+    ∷ shows "the amount is that of the till" owed (payment 0 100 ∷ payment_at 1 0 200 ∷ payout 0 300 ∷ returned_at 1 0 1 ∷ []) 2700
+    ∷ shows "the amount is that of the other till" owed (payment 0 100 ∷ payment_at 1 0 200 ∷ payout 0 300 ∷ returned 0 1 ∷ []) 2600
+    ∷ shows "payments of every till are credits" credit (payment 0 1 ∷ payment_at 1 0 2 ∷ payment_at 2 0 4 ∷ payment_at 3 0 8 ∷ payment_at 4 0 16 ∷ []) 31
+    ∷ ends "payments of two tills keep an arrangement" (bill 0 6000 ∷ arrangement 20 2 ∷ payment_at 1 20 1000 ∷ payment_at 2 50 2000 ∷ arrangement 50 2 ∷ []) 9
+    ∷ ends "payments of two tills, a cent short" (bill 0 6000 ∷ arrangement 20 2 ∷ payment_at 1 20 1000 ∷ payment_at 2 50 1999 ∷ arrangement 50 2 ∷ []) 0
+    ∷ ends "what an arrangement loses is the till's own payment"
+    (bill 0 6000 ∷ arrangement 20 2 ∷ payment 20 3000 ∷ payment_at 1 20 3000 ∷ payment_at 1 20 9 ∷ payment 20 10 ∷ returned_at 1 21 2 ∷ returned 21 2 ∷ arrangement 50 2 ∷ [])
+    9
+    ∷ ends "the payment of a till, returned after an arrangement" (bill 0 6000 ∷ arrangement 20 2 ∷ payment 20 1 ∷ payment_at 1 20 3000 ∷ returned_at 1 21 1 ∷ arrangement 50 2 ∷ []) 0
+    ∷ ends "the same number of another till, returned after it" (bill 0 6000 ∷ arrangement 20 2 ∷ payment 20 1 ∷ payment_at 1 20 3000 ∷ returned 21 1 ∷ arrangement 50 2 ∷ []) 9
+    ∷ ends "payments of two tills up to the limit" (rich ++ (payment_at 4 0 10000000000 ∷ [])) 0
+    ∷ ends "payments of two tills over the limit" (rich ++ (payment_at 4 0 10000000000 ∷ payment_at 3 0 1 ∷ [])) 19
+    ∷ ends "closed: a payment at a till" (close 0 ∷ payment_at 3 0 1 ∷ []) 0
+    ∷ ends "closed: returned at a till" (payment_at 3 0 1 ∷ close 0 ∷ returned_at 3 0 1 ∷ []) 0
     ∷ []
 
 abbrev deposits : List Case
@@ -529,4 +579,4 @@ readings =
 abbrev pub edges : List Case
 edges =
     readings
-    ++ (days ++ (ranges ++ (charges ++ (receipts ++ (deposits ++ (services ++ (payouts ++ (notices ++ (certificates ++ (arrangements ++ limits))))))))))
+    ++ (days ++ (ranges ++ (charges ++ (receipts ++ (tills ++ (deposits ++ (services ++ (payouts ++ (notices ++ (certificates ++ (arrangements ++ limits)))))))))))

@@ -27,11 +27,18 @@ event k t o a = record { kind = k; option = o; day = t; amount = a }
 abbrev pub bill : ℕ → ℕ → Event
 bill t a = event kinds.bill t 0 a
 
+-- a payment at a till, and the return of a till's receipt; with no word of a till, at till 0
+abbrev pub payment_at : ℕ → ℕ → ℕ → Event
+payment_at till t a = event kinds.payment t till a
+
 abbrev pub payment : ℕ → ℕ → Event
-payment t a = event kinds.payment t 0 a
+payment t a = payment_at 0 t a
+
+abbrev pub returned_at : ℕ → ℕ → ℕ → Event
+returned_at till t r = event kinds.returned_payment t till r
 
 abbrev pub returned : ℕ → ℕ → Event
-returned t r = event kinds.returned_payment t 0 r
+returned t r = returned_at 0 t r
 
 abbrev pub fee : ℕ → ℕ → Event
 fee t n = event kinds.fee t n 0

@@ -8,6 +8,7 @@ use Rattle.rules.proofs.Events.{
   bill,
   payment,
   returned,
+  returned_at,
   fee,
   asked_deposit,
   paid,
@@ -64,6 +65,7 @@ orders =
     ∷ ends "fee: 18 before 19" (brim ++ (fee 0 1 ∷ [])) 18
     -- returned payment
     ∷ ends "returned: 6 before 18 and 19" (brim ++ (returned 0 20 ∷ [])) 6
+    ∷ ends "returned: 3 before 6, 18 and 19" (brim ++ (returned_at 5 0 20 ∷ [])) 3
     ∷ ends "returned: 18 before 19" (brim ++ (returned 0 19 ∷ [])) 18
     -- deposits
     ∷ ends "deposit paid: 4 before 7" (close 0 ∷ paid 0 1 ∷ []) 4

@@ -10,7 +10,7 @@ use Rattle.basics.proofs.Cases.{on, on_eq}
 use Rattle.rules.specs.declared.Event.{Event}
 use Rattle.rules.specs.Kinds.{bill, payment, returned_payment, fee, deposit_paid, final_notice, reconnection}
 use Rattle.rules.specs.History.{History, is, count, since, amount_if, total, newest}
-use Rattle.rules.specs.Receipts.{payments, returnable}
+use Rattle.rules.specs.Receipts.{is_at, payments, named_payment}
 use Rattle.rules.specs.Deposit.{moves, held, moved}
 use Rattle.rules.specs.Money.{credited, credits, credit_by, charges, charge_by, charge, charged, items, sum_of}
 use Rattle.rules.specs.Sums.{late_charges, fees_charged, returned_payments}
@@ -59,10 +59,10 @@ deposits (e ∷ h) =
     (λ q z. simp z (omega arith))
     (λ q z. on (moves e) (λ m. simp (q, m) (omega arith)) (λ m. simp (q, m) (omega arith))))
 
--- a receipt counts the accepted payments
-pub receipts : (h : History) → length (payments h) ≡ count (is payment) h
-receipts [] = refl
-receipts (e ∷ h) = let ih = receipts h in on (is payment e) (λ q. rw q (omega arith)) (λ q. rw q (omega arith))
+-- a receipt counts the accepted payments of its till
+pub receipts : (till : ℕ) (h : History) → length (payments till h) ≡ count (is_at till payment) h
+receipts till [] = refl
+receipts till (e ∷ h) = let ih = receipts till h in on (is_at till payment e) (λ q. rw q (omega arith)) (λ q. rw q (omega arith))
 
 -- ---- items
 -- an event that makes no item charges nothing
@@ -94,4 +94,4 @@ charged_items (e ∷ h) =
     let ih = charged_items h in
     on (charges e)
     (λ q. rw (q, sum_append) (omega arith))
-    (λ q. let z : charge h e ≡ 0 = no_charge (charged h) (credits h) (returnable h e.amount) e q in rw q (omega arith))
+    (λ q. let z : charge h e ≡ 0 = no_charge (charged h) (credits h) (named_payment h e) e q in rw q (omega arith))

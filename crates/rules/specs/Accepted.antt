@@ -7,7 +7,7 @@ use Rattle.rules.specs.Limits.{final_day, enough}
 use Rattle.rules.specs.History.{History, is, last_posted, count}
 use Rattle.rules.specs.Service.{service, is_on}
 use Rattle.rules.specs.Deposit.{held, required, earned}
-use Rattle.rules.specs.Receipts.{returnable}
+use Rattle.rules.specs.Receipts.{is_at, named_payment}
 use Rattle.rules.specs.Money.{charged, credited, credits, open_items, arrears}
 use Rattle.rules.specs.Notice.{notice_live, notice_in_days, called}
 use Rattle.rules.specs.Medical.{certified, approved}
@@ -24,7 +24,7 @@ view_of h e =
       charged = charged h;
       credited = credited h;
       credits = credits h;
-      payment = returnable h e.amount;
+      payment = named_payment h e;
       held = held h;
       required = required h;
       earned = earned h e.day;
@@ -68,9 +68,9 @@ abbrev pub Lawful : History → Type 0
 Lawful [] = Unit {0}
 Lawful (e ∷ h) = (refusal h e ≡ 0) × Lawful h
 
--- the receipt that e is given when it is accepted after h: receipts count the accepted payments; 0 for other events
+-- the receipt that e is given when it is accepted after h: it counts the accepted payments of its till; 0 for other events
 abbrev pub receipt_after : History → Event → ℕ
-receipt_after h e = cond (is payment e) (count (is payment) (e ∷ h)) 0
+receipt_after h e = cond (is payment e) (count (is_at e.option payment) (e ∷ h)) 0
 
 -- the answer to e after h: accepted with the receipt, or refused with the number
 abbrev pub answer : History → Event → Answer

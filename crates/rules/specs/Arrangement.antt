@@ -3,7 +3,7 @@ use Rattle.std.specs.Prelude.{ℕ, ◌+◌, ◌*◌, ◌-◌, ◌/◌, min, Bool
 use Rattle.rules.specs.Limits.{part_days}
 use Rattle.rules.specs.Kinds.{payment, returned_payment, arrangement}
 use Rattle.rules.specs.History.{History, is, since, total}
-use Rattle.rules.specs.Receipts.{returnable}
+use Rattle.rules.specs.Receipts.{named_payment}
 use Rattle.rules.specs.Money.{arrears}
 
 -- what was arranged: the day t, in n parts, and D, the arrears before it
@@ -26,7 +26,7 @@ paid_since h = total payment (since (is arrangement) h)
 abbrev pub returned_since : History → ℕ
 returned_since [] = 0
 returned_since (e ∷ h) =
-    cond (is arrangement e) 0 (returned_since h + cond (is returned_payment e) (returnable h e.amount) 0)
+    cond (is arrangement e) 0 (returned_since h + cond (is returned_payment e) (named_payment h e) 0)
 
 -- q: D / n rounded up
 abbrev pub instalment : Terms → ℕ

@@ -25,9 +25,13 @@ most_receipt = 18_446_744_073_709_551_615
 abbrev pub most_open : ℕ
 most_open = 64
 
--- so many of the newest payments are known by their receipts
+-- tills are numbered from 0 to this one
+abbrev pub last_till : ℕ
+last_till = 4
+
+-- so many of each till's newest payments are known by their receipts
 abbrev pub known_receipts : ℕ
-known_receipts = 32
+known_receipts = 16
 
 -- an item is delinquent from so many days after its own
 abbrev pub grace : ℕ

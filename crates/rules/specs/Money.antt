@@ -7,7 +7,7 @@ use Rattle.rules.specs.declared.Item.{Item}
 use Rattle.rules.specs.Kinds.{bill, payment, returned_payment, fee, payout, final_notice, reconnection}
 use Rattle.rules.specs.History.{History, is, amount_if, total}
 use Rattle.rules.specs.Fees.{fee_of, fee_number}
-use Rattle.rules.specs.Receipts.{returnable}
+use Rattle.rules.specs.Receipts.{named_payment}
 use Rattle.rules.specs.Deposit.{moves, moved}
 
 -- ---- credits
@@ -36,18 +36,18 @@ late_charge owed = 3 * owed / 4 / 100
 abbrev pub late_in : ℕ → ℕ → Event → ℕ
 late_in c p e = cond (is bill e) (late_charge (c - p)) 0
 
--- the amount of the item that e makes, 0 where it makes none; c is C, p is P, r the payment of its receipt, all before e
+-- the amount of the item that e makes, 0 where it makes none; c is C, p is P, r the payment that it names, all before e
 abbrev pub charge_by : ℕ → ℕ → ℕ → Event → ℕ
 charge_by c p r e = amount_if bill e + late_in c p e + cond (is returned_payment e) r 0 + fee_of (fee_number e)
 
 -- C: the sum of all items
 abbrev pub charged : History → ℕ
 charged [] = 0
-charged (e ∷ h) = charged h + charge_by (charged h) (credits h) (returnable h e.amount) e
+charged (e ∷ h) = charged h + charge_by (charged h) (credits h) (named_payment h e) e
 
 -- the amount of the item that e makes after h
 abbrev pub charge : History → Event → ℕ
-charge h e = charge_by (charged h) (credits h) (returnable h e.amount) e
+charge h e = charge_by (charged h) (credits h) (named_payment h e) e
 
 -- owed: C − P, which may be negative
 abbrev pub owed : History → ℤ

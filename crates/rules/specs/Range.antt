@@ -2,12 +2,16 @@
 use Rattle.std.specs.Prelude.{ℕ, ◌≤◌, Bool, true, ◌&&◌, ◌≡◌, List, [], ◌∷◌, get_or}
 use Rattle.rules.specs.declared.Event.{Event}
 use Rattle.rules.specs.declared.Fields.{Fields}
-use Rattle.rules.specs.Limits.{final_day, most_amount, most_deposit, most_receipt, certificate_days, approval_days, least_parts, most_parts}
+use Rattle.rules.specs.Limits.{final_day, most_amount, most_deposit, most_receipt, last_till, certificate_days, approval_days, least_parts, most_parts}
 use Rattle.rules.specs.History.{within}
 
 -- the amount lies in 1 to n, and the option is not named
 abbrev pub amount_to : ℕ → Fields
 amount_to n = record { option_from = 0; option_to = 0; amount_from = 1; amount_to = n }
+
+-- the option names a till, and the amount lies in 1 to n
+abbrev pub at_till : ℕ → Fields
+at_till n = record { option_from = 0; option_to = last_till; amount_from = 1; amount_to = n }
 
 -- the option lies in m to n, and the amount is not named
 abbrev pub option_in : ℕ → ℕ → Fields
@@ -26,11 +30,11 @@ abbrev pub fields : List Fields
 fields =
     -- 0 is no kind
     unknown
-    -- 1 bill, 2 payment: an amount A
+    -- 1 bill: an amount A
     ∷ amount_to most_amount
-    ∷ amount_to most_amount
-    -- 3 returned payment: its receipt
-    ∷ amount_to most_receipt
+    -- 2 payment: its till, and an amount A; 3 returned payment: its till, and its receipt there
+    ∷ at_till most_amount
+    ∷ at_till most_receipt
     -- 4 fee: its number
     ∷ option_in 1 3
     -- 5 deposit asked, 6 deposit paid: an amount; 7 deposit moved

@@ -4,7 +4,7 @@ use Rattle.rules.specs.declared.Event.{Event}
 use Rattle.rules.specs.Kinds.{returned_payment}
 use Rattle.rules.specs.History.{History, is}
 use Rattle.rules.specs.Fees.{fee_of, fee_number}
-use Rattle.rules.specs.Receipts.{returnable}
+use Rattle.rules.specs.Receipts.{named_payment}
 use Rattle.rules.specs.Money.{charged, credits, late_in}
 
 -- f of the events before each event and of the event, added up
@@ -22,4 +22,4 @@ fees_charged h = sum_over (λ before e. fee_of (fee_number e)) h
 
 -- the returned payments, without fee 5
 abbrev pub returned_payments : History → ℕ
-returned_payments h = sum_over (λ before e. cond (is returned_payment e) (returnable before e.amount) 0) h
+returned_payments h = sum_over (λ before e. cond (is returned_payment e) (named_payment before e) 0) h

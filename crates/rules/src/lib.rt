@@ -73,7 +73,7 @@ pub struct View {
     pub credited: u64,
     // the same less payouts (document 01: P)
     pub credits: u64,
-    // the payment of the receipt that the event names, 0 where it is not known or was returned: a place in memory is 0 for both, and
+    // the payment that the event names by till and receipt, 0 where it is not known or was returned: a place in memory is 0 for both, and
     // an Option would be made of it here only for row 6 to ask it back
     pub payment: u64,
     pub held: u64,

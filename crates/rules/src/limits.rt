@@ -19,8 +19,10 @@ pub const MOST_DEPOSIT: u64 = 100_000_000;
 
 pub const MOST_RECEIPT: u64 = 18_446_744_073_709_551_615;
 
-// So many of the newest payments are known by their receipts.
-pub const KNOWN_RECEIPTS: u64 = 32;
+// Tills are numbered from 0 to this one, and so many of each till's newest payments are known by their receipts.
+pub const LAST_TILL: u8 = 4;
+
+pub const KNOWN_RECEIPTS: u64 = 16;
 
 // An item is delinquent from so many days after its own.
 pub const GRACE: u64 = 20;
