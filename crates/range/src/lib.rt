@@ -3,14 +3,14 @@
 
 ghost use Rattle.std.specs.Prelude.{◌≡◌, cond, not, get_or, Err, MatchResult};
 ghost use Rattle.rules.specs.Kinds.{kind_number};
-ghost use Rattle.rules.specs.Range.{amount_to, option_in, unknown, fields, in_range};
+ghost use Rattle.rules.specs.Range.{amount_to, at_till, option_in, unknown, fields, in_range};
 ghost use Rattle.rules.specs.Answer.{answered};
 ghost use Rattle.rules.specs.Accepted.{day_rows};
 
 use rules::kinds::Kind;
 use rules::limits::{
-    APPROVAL_DAYS, CERTIFICATE_DAYS, FINAL_DAY, LEAST_PARTS, MOST_AMOUNT, MOST_DEPOSIT, MOST_PARTS,
-    MOST_RECEIPT,
+    APPROVAL_DAYS, CERTIFICATE_DAYS, FINAL_DAY, LAST_TILL, LEAST_PARTS, MOST_AMOUNT, MOST_DEPOSIT,
+    MOST_PARTS, MOST_RECEIPT,
 };
 use rules::refusals::Refusal;
 use rules::{Event, Fields, InRange};
@@ -22,6 +22,18 @@ fn amount_to(n: u64) -> Fields
     Fields {
         option_from: 0,
         option_to: 0,
+        amount_from: 1,
+        amount_to: n,
+    }
+}
+
+// The option names a till, and the amount lies in 1 to n.
+fn at_till(n: u64) -> Fields
+    ensures { result ≡ at_till n }
+{
+    Fields {
+        option_from: 0,
+        option_to: LAST_TILL,
         amount_from: 1,
         amount_to: n,
     }
@@ -44,8 +56,9 @@ fn fields_of(kind: Kind) -> Fields
     ensures { result ≡ get_or fields (kind_number kind) unknown }
 {
     match kind {
-        Kind::Bill | Kind::Payment | Kind::DepositPaid | Kind::Payout => amount_to(MOST_AMOUNT),
-        Kind::ReturnedPayment => amount_to(MOST_RECEIPT),
+        Kind::Bill | Kind::DepositPaid | Kind::Payout => amount_to(MOST_AMOUNT),
+        Kind::Payment => at_till(MOST_AMOUNT),
+        Kind::ReturnedPayment => at_till(MOST_RECEIPT),
         Kind::Fee => option_in(1, 3),
         Kind::DepositAsked => amount_to(MOST_DEPOSIT),
         Kind::Certificate => amount_to(CERTIFICATE_DAYS),
