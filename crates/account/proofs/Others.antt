@@ -27,6 +27,7 @@ ringed_applied : (s : State) (e : Event) (v : View) → Ringed s → Ringed (app
 unfolding applied ledger_after
 ringed_applied s e v r =
     record {
+      receipts_counts = on (is payment e) (λ q. rw (q, length-set) r.receipts_counts) (λ q. rw q r.receipts_counts);
       receipts_ring =
           on (is payment e) (λ q. rw (q, length-set) r.receipts_ring)
           (λ q. on (is returned_payment e) (λ p. rw (q, p, length-set) r.receipts_ring) (λ p. rw (q, p) r.receipts_ring));

@@ -17,6 +17,7 @@ use Rattle.rules.specs.declared.View.{View}
 use Rattle.rules.specs.Kinds.{bill, payment, returned_payment, fee, deposit_asked, certificate, approval, arrangement, final_notice, disconnection, closing}
 use Rattle.rules.specs.History.{is}
 use Rattle.rules.specs.Service.{is_closed}
+use Rattle.rules.specs.Range.{WellFormed}
 use Rattle.rules.specs.Money.{charges, late_charge}
 use Rattle.rules.specs.Table.{charge_of, credit_of, refusal_by}
 use Rattle.rules.proofs.Passed.{allowed}
@@ -30,7 +31,7 @@ use Rattle.deposit.proofs.Words.{deposit_other}
 use Rattle.medical.proofs.Words.{untouched}
 use Rattle.arrangement.specs.declared.Arrangement.{Arrangement}
 use Rattle.arrangement.specs.Arrangement.{arrangement_size, arrangement_on, arrangement_after}
-use Rattle.receipts.specs.Receipts.{Receipts, receipts_size, receipts_on, receipts_after}
+use Rattle.receipts.specs.Receipts.{Receipts, receipts_size, receipts_on, count_by, receipts_after}
 use Rattle.ledger.specs.Ledger.{ledger_size, ledger_on, credits_by, arrears_by, ledger_after, LedgerRoom}
 use Rattle.ledger.proofs.Test.{ledger_room}
 use Rattle.account.specs.State.{State, sizes, account_size, state_of, state_on, view, with_money, with_file, with_service, money_after, file_after, service_after, applied}
@@ -157,9 +158,11 @@ payment_ledger m e f z =
     (subst (λ n. LedgerRoom l e (charges e) n e.amount) none
     (subst (λ n. LedgerRoom l e (charges e) (charge_of v e) n) paid (free_ledger m e f)))
 
-pub payment_receipt : (m c : List ℕ) (e : Event) (v : View) (n : ℕ) → e.kind ≡ payment → Became c (applied (state_on m) e v) → n ≡ (state_on c).receipts.count
+pub payment_receipt : (m c : List ℕ) (e : Event) (v : View) (n : ℕ) → length m ≡ account_size → WellFormed e → e.kind ≡ payment
+    → Became c (applied (state_on m) e v)
+    → n ≡ count_by (state_on c).receipts e.option
     → n ≡ receipt_at (state_on m) e
-payment_receipt m c e v n z b q = let y : cond (is payment e) n 0 ≡ n = rw z in sym y ∙ receipt_by m c e v n b q
+payment_receipt m c e v n l w z b q = let y : cond (is payment e) n 0 ≡ n = rw z in sym y ∙ receipt_by m c e v n l w b q
 
 -- of a bill or a fee
 more_by_none : (n : ℕ) → n ≡ n + 0

@@ -15,6 +15,7 @@ use Rattle.rules.specs.declared.View.{View}
 use Rattle.rules.specs.Kinds.{payment, returned_payment, arrangement}
 use Rattle.rules.specs.History.{is}
 use Rattle.rules.specs.Money.{charges}
+use Rattle.rules.specs.Range.{WellFormed}
 use Rattle.rules.specs.Table.{charge_of, credit_of}
 use Rattle.rules.proofs.Passed.{allowed}
 use Rattle.rules.proofs.Room.{Room, room}
@@ -26,12 +27,14 @@ use Rattle.deposit.specs.Deposit.{deposit_size, deposit_on, deposit_after}
 use Rattle.medical.specs.Medical.{medical_size, medical_on, medical_after}
 use Rattle.arrangement.specs.declared.Arrangement.{Arrangement}
 use Rattle.arrangement.specs.Arrangement.{arrangement_size, arrangement_on, arrangement_after}
-use Rattle.receipts.specs.Receipts.{receipts_size, receipts_on, receipts_after}
+use Rattle.receipts.specs.Receipts.{receipts_size, receipts_on, count_by, receipts_after}
+use Rattle.receipts.proofs.Tills.{next_count}
 use Rattle.ledger.specs.Ledger.{ledger_size, ledger_on, arrears_by, ledger_after, LedgerRoom}
 use Rattle.ledger.proofs.Test.{ledger_room}
 use Rattle.account.specs.State.{State, sizes, account_size, state_of, state_on, view, with_money, with_file, with_service, money_after, file_after, service_after, applied}
 use Rattle.account.specs.Post.{receipt_at}
 use Rattle.account.specs.Looks.{Became, Passing}
+use Rattle.account.proofs.Words.{ringed_on}
 
 -- ---- an event that passes has room
 module _ (m : List ℕ) (e : Event) (v : View) (item : Option ℕ) (p : Passing m e v item) where
@@ -110,13 +113,17 @@ unfolding applied
 steps_are m a b c e v p q r =
     record { words_are = r.words_are; state_is = r.state_is ∙ ap (λ s. service_after s e) (q.state_is ∙ ap (λ s. file_after s e) p.state_is) }
 
--- the receipt of a payment is how many there are then
-pub receipt_by : (m c : List ℕ) (e : Event) (v : View) (n : ℕ) → Became c (applied (state_on m) e v) → n ≡ (state_on c).receipts.count
+-- the receipt of a payment is how many there are then at its till
+pub receipt_by : (m c : List ℕ) (e : Event) (v : View) (n : ℕ) → length m ≡ account_size → WellFormed e → Became c (applied (state_on m) e v)
+    → n ≡ count_by (state_on c).receipts e.option
     → cond (is payment e) n 0 ≡ receipt_at (state_on m) e
 unfolding applied
-receipt_by m c e v n b q =
-    let z : n ≡ cond (is payment e) ((state_on m).receipts.count + 1) (state_on m).receipts.count = q ∙ ap (λ s. s.receipts.count) b.state_is in
-    rw z (on (is payment e) (λ y. rw y refl) (λ y. rw y refl))
+receipt_by m c e v n l w b q =
+    let s = (state_on m).receipts in
+    let z : n ≡ count_by (receipts_after s e) e.option = q ∙ ap (λ k. count_by k.receipts e.option) b.state_is in
+    on (is payment e)
+    (λ y. rw y (z ∙ next_count s e (ringed_on m l).receipts_counts w y))
+    (λ y. rw y refl)
 
 -- ---- what the event's kind looks at is enough to apply it
 module _ (v : View) (e : Event) where

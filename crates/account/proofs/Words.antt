@@ -1,21 +1,22 @@
 -- An account and its words: each is all of the other.
-use Prim.Native.Nat.{ℕ}
+use Prim.Native.Nat.{ℕ, ◌*◌}
 use mathlib.Core.Path.{◌≡◌, refl, sym, ap, ◌∙◌}
 use mathlib.Core.List.{List, [], ◌∷◌}
 use native.Mathlib.Omega.{arith}
-use lib.ListN.{length, length-drop}
+use lib.ListN.{length, length-take, length-drop, length-append}
 use Rattle.span.specs.Span.{joined}
 use Rattle.span.proofs.Law.{whole}
 use Rattle.span.proofs.Parts.{part, part_length, joined_cut, joined_length, Sized, cut_joined}
 use Rattle.rules.specs.Limits.{known_receipts}
+use Rattle.receipts.specs.Receipts.{tills}
 use Rattle.collection.proofs.Words.{collection_whole}
 use Rattle.deposit.proofs.Words.{deposit_whole}
 use Rattle.medical.proofs.Words.{medical_whole}
 use Rattle.arrangement.proofs.Words.{arrangement_whole}
-use Rattle.receipts.proofs.Words.{receipts_whole}
+use Rattle.receipts.proofs.Words.{receipts_whole, receipts_back}
 use Rattle.ledger.specs.Ring.{ring_size}
 use Rattle.ledger.proofs.Words.{ledger_whole}
-use Rattle.account.specs.State.{State, sizes, account_size, state_of, state_on, spans_of, words_of}
+use Rattle.account.specs.State.{State, sizes, account_size, state_of, state_on, spans_of, words_of, with_money}
 
 -- equal accounts are equal memory: the words of the account that memory is are the memory
 pub account_whole : (m : List ℕ) → length m ≡ account_size → words_of (state_on m) ≡ m
@@ -30,23 +31,25 @@ account_whole m l =
     let g = ledger_whole (part sizes 7 m) (part_length sizes 7 m (omega arith) l) in
     (λ i. joined (z i ∷ a i ∷ b i ∷ c i ∷ d i ∷ e i ∷ f i ∷ g i ∷ [])) ∙ joined_cut sizes 0 m (sym l)
 
--- the rings of an account have their places
+-- the counts and the rings of an account have their places
 pub record Ringed (s : State) : Type 0 where
-  pub receipts_ring : length s.receipts.recent ≡ known_receipts
+  pub receipts_counts : length s.receipts.counts ≡ tills
+  pub receipts_ring : length s.receipts.recent ≡ known_receipts * tills
   pub ledger_ring : length s.ledger.ring ≡ ring_size
 
 pub ringed_on : (m : List ℕ) → length m ≡ account_size → Ringed (state_on m)
 ringed_on m l =
     record {
+      receipts_counts = rw length-take (omega (arith, part_length sizes 6 m (omega arith) l));
       receipts_ring = rw length-drop (omega (arith, part_length sizes 6 m (omega arith) l));
       ledger_ring = rw length-drop (omega (arith, part_length sizes 7 m (omega arith) l));
     }
 
 sized : (s : State) → Ringed s → Sized sizes (spans_of s)
-sized s r = (refl, (refl, (refl, (refl, (refl, (refl, (omega (arith, r.receipts_ring), (omega (arith, r.ledger_ring), tt))))))))
+sized s r = (refl, (refl, (refl, (refl, (refl, (refl, (rw length-append (omega (arith, r.receipts_counts, r.receipts_ring)), (omega (arith, r.ledger_ring), tt))))))))
 
 pub words_length : (s : State) → Ringed s → length (words_of s) ≡ account_size
 words_length s r = omega (arith, joined_length sizes (spans_of s) 0 (sized s r))
 
 pub account_back : (s : State) → Ringed s → state_on (words_of s) ≡ s
-account_back s r = ap state_of (cut_joined sizes (spans_of s) (sized s r)) ∙ refl
+account_back s r = ap state_of (cut_joined sizes (spans_of s) (sized s r)) ∙ (λ i. with_money s s.arrangement (receipts_back s.receipts r.receipts_counts i) s.ledger)

@@ -47,7 +47,7 @@ abbrev pub money_for : State → Event → Money
 money_for s e =
     record {
       sums = sums_of s.ledger;
-      payment = cond (is returned_payment e) (payment_by s.receipts e.amount) 0;
+      payment = cond (is returned_payment e) (payment_by s.receipts e.option e.amount) 0;
       held = s.deposit.held;
       required = s.deposit.required;
       earned = is deposit_moved e && earned_by s.deposit e.day;

@@ -8,6 +8,7 @@ use Rattle.rules.specs.Range.{in_range}
 use Rattle.rules.specs.Table.{refusal_by}
 use Rattle.rules.specs.Answer.{Answer, answered}
 use Rattle.rules.specs.Accepted.{day_rows}
+use Rattle.receipts.specs.Receipts.{count_by}
 use Rattle.account.specs.declared.Account.{Account}
 use Rattle.account.specs.declared.Posted.{Posted}
 use Rattle.account.specs.State.{State, state_on, words_of, passes, view, applied}
@@ -17,9 +18,9 @@ use Rattle.account.specs.State.{State, state_on, words_of, passes, view, applied
 unfoldable pub refusal_at : State → Event → ℕ
 refusal_at s e = day_rows s.last e.day (cond (not (in_range e)) 3 (refusal_by (view s e) e))
 
--- the receipt of a payment, or 0
+-- the receipt of a payment at its till, or 0
 abbrev pub receipt_at : State → Event → ℕ
-receipt_at s e = cond (is payment e) (s.receipts.count + 1) 0
+receipt_at s e = cond (is payment e) (count_by s.receipts e.option + 1) 0
 
 unfoldable pub answer_at : State → Event → Answer
 answer_at s e = answered (refusal_at s e) (receipt_at s e)

@@ -56,11 +56,11 @@ abbrev pub sizes : List ℕ
 sizes = 1 ∷ 1 ∷ collection_size ∷ deposit_size ∷ medical_size ∷ arrangement_size ∷ receipts_size ∷ ledger_size ∷ []
 
 abbrev pub account_size : ℕ
-account_size = 188
+account_size = 240
 
--- the number of this layout: a million and one, more than any day, with which an account once began
+-- the number of this layout: a million and two, more than any day, with which an account once began
 abbrev pub layout_number : ℕ
-layout_number = 1000001
+layout_number = 1000002
 
 -- the account of these spans
 abbrev pub state_of : List (List ℕ) → State
@@ -152,7 +152,7 @@ view s e =
       charged = s.ledger.charged;
       credited = s.ledger.credited;
       credits = credits_by s.ledger;
-      payment = payment_by s.receipts e.amount;
+      payment = payment_by s.receipts e.option e.amount;
       held = s.deposit.held;
       required = s.deposit.required;
       earned = earned_by s.deposit e.day;

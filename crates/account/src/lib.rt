@@ -23,7 +23,7 @@ pub use spans::WORDS;
 use spans::{LAYOUT, LAYOUT_NUMBER};
 pub use would::would_answer;
 
-// An account by value: 1,504 bytes are copied for each event, which takes twice as long as to lend them.
+// An account by value: 1,920 bytes are copied for each event, which takes twice as long as to lend them.
 #[derive(Clone, Copy)]
 pub struct Account {
     pub memory: [u64; WORDS],
@@ -37,7 +37,7 @@ pub struct Posted {
 }
 
 // Whether memory is an account.
-#[tactic(auto, unfolding(crate::specs::State::passes))]
+#[tactic(auto, unfolding(crate::specs::State::passes, crate::specs::State::state_ok))]
 pub fn passes(m: &[u64]) -> bool
     ensures { result ≡ is_account m.now }
 {

@@ -33,7 +33,7 @@ pub struct Debts {
     pub approved: bool,
 }
 
-// The sums and the deposit; `payment` is that of the receipt which a returned payment names, `earned` is for a deposit moved.
+// The sums and the deposit; `payment` is the one that a returned payment names, `earned` is for a deposit moved.
 #[derive(Clone, Copy)]
 pub struct Money {
     pub sums: Sums,

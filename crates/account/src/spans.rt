@@ -27,6 +27,6 @@ pub const LEDGER: usize = RECEIPTS + receipts::WORDS;
 // how many words an account has
 pub const WORDS: usize = LEDGER + ledger::WORDS;
 
-// The number of this layout: a million and one, more than any day, with which an account once began. One that is laid out
+// The number of this layout: a million and two, more than any day, with which an account once began. One that is laid out
 // otherwise has another.
-pub const LAYOUT_NUMBER: u64 = 1_000_001;
+pub const LAYOUT_NUMBER: u64 = 1_000_002;

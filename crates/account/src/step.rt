@@ -19,7 +19,7 @@ fn move_money(m: &mut [u64], posted: InRange, offer: Offer)
     let v = offer.view;
     let credit = amounts::credit(v, e);
     ledger::step(&mut m[LEDGER..WORDS], e, offer.item, credit);
-    receipts::step(&mut m[RECEIPTS..LEDGER], e);
+    receipts::step(&mut m[RECEIPTS..LEDGER], posted);
     arrangement::step(&mut m[ARRANGEMENT..RECEIPTS], posted, v.arrears, v.payment);
 }
 
@@ -57,6 +57,6 @@ pub fn apply(m: &mut [u64], posted: InRange, offer: Offer) -> u64
     move_money(m, posted, offer);
     keep_file(m, posted);
     set_service(m, e);
-    let n = receipts::count(&m[RECEIPTS..LEDGER]);
+    let n = receipts::count(&m[RECEIPTS..LEDGER], e.option);
     if e.is(Kind::Payment) { n } else { 0 }
 }

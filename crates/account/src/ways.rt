@@ -49,7 +49,7 @@ fn take_payment(m: &mut [u64], posted: InRange)
 {
     let e = posted.event;
     ledger::step(&mut m[LEDGER..WORDS], e, None, e.amount);
-    receipts::step(&mut m[RECEIPTS..LEDGER], e);
+    receipts::step(&mut m[RECEIPTS..LEDGER], posted);
     arrangement::step(&mut m[ARRANGEMENT..RECEIPTS], posted, 0, 0);
 }
 
@@ -60,7 +60,7 @@ fn pay(m: &mut [u64], posted: InRange) -> u64
 {
     take_payment(m, posted);
     pass_day(m, posted.event);
-    receipts::count(&m[RECEIPTS..LEDGER])
+    receipts::count(&m[RECEIPTS..LEDGER], posted.event.option)
 }
 
 pub fn payment(m: &mut [u64], e: Event) -> Answer

@@ -12,7 +12,7 @@ use rules::{Answer, Event};
 fn receipt(account: Known, e: Event) -> u64
     ensures { result ≡ receipt_at (state_on account.entry.words.now) e }
 {
-    let n = receipts::count(account.receipts());
+    let n = receipts::count(account.receipts(), e.option);
     if e.is(Kind::Payment) { n + 1 } else { 0 }
 }
 

@@ -9,7 +9,7 @@ use Rattle.basics.proofs.Cases.{on, on_eq}
 use Rattle.rules.specs.Kinds.{payment, arrangement}
 use Rattle.rules.specs.Limits.{final_day}
 use Rattle.rules.specs.History.{History, is}
-use Rattle.rules.specs.Receipts.{returnable}
+use Rattle.rules.specs.Receipts.{named_payment}
 use Rattle.rules.specs.Money.{arrears}
 use Rattle.rules.specs.Arrangement.{Terms, terms, paid_since, returned_since, in_force}
 use Rattle.rules.specs.Accepted.{Lawful}
@@ -28,7 +28,7 @@ arrangement_is : (h : History) → arrangement_of h ≡ said h
 unfolding arrangement_of
 arrangement_is [] = rw (total_grows payment [])
 arrangement_is (e ∷ h) =
-    ap (λ a. arrangement_after a e (arrears h e.day) (returnable h e.amount)) (arrangement_is h)
+    ap (λ a. arrangement_after a e (arrears h e.day) (named_payment h e)) (arrangement_is h)
     ∙ rw (total_since payment (is arrangement) e h) (on (is arrangement e) (λ q. rw q) (λ q. rw q))
 
 -- ---- the test

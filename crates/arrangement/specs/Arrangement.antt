@@ -4,7 +4,7 @@ use Rattle.rules.specs.declared.Event.{Event}
 use Rattle.rules.specs.Kinds.{payment, returned_payment, arrangement}
 use Rattle.rules.specs.Limits.{final_day, limit, part_days, most_parts}
 use Rattle.rules.specs.History.{History, is, amount_if}
-use Rattle.rules.specs.Receipts.{returnable}
+use Rattle.rules.specs.Receipts.{named_payment}
 use Rattle.rules.specs.Money.{arrears}
 use Rattle.rules.specs.Arrangement.{Terms, due_by}
 use Rattle.arrangement.specs.declared.Arrangement.{Arrangement}
@@ -38,7 +38,7 @@ arrangement_after a e owing back =
 -- the part after a history
 unfoldable pub arrangement_of : History → Arrangement
 arrangement_of [] = no_arrangement
-arrangement_of (e ∷ h) = arrangement_after (arrangement_of h) e (arrears h e.day) (returnable h e.amount)
+arrangement_of (e ∷ h) = arrangement_after (arrangement_of h) e (arrears h e.day) (named_payment h e)
 
 -- ---- what it tells
 abbrev pub terms_by : Arrangement → Terms

@@ -4,7 +4,7 @@ use mathlib.Core.Path.{◌≡◌, refl, ap, ◌∙◌}
 use mathlib.Core.List.{List, [], ◌∷◌}
 use native.Mathlib.Omega.{arith}
 use lib.Dec.{eqb}
-use borrow.Author.Tests.{eqb-true}
+use borrow.Author.Tests.{eq-eqb, eqb-true}
 use Rattle.basics.proofs.Cases.{on, on_lt}
 use Rattle.rules.specs.declared.Event.{Event}
 use Rattle.rules.specs.Kinds.{payment}
@@ -32,7 +32,7 @@ view_same h e k l = λ i. record {
   charged = k.on_ledger.charged_is i;
   credited = k.on_ledger.credited_is i;
   credits = k.on_ledger.credits_is i;
-  payment = k.on_receipts.payment_is e.amount i;
+  payment = k.on_receipts.payment_is e.option e.amount i;
   held = k.on_deposit.held_is i;
   required = k.on_deposit.required_is i;
   earned = k.on_deposit.earned_is e.day l i;
@@ -60,7 +60,7 @@ unfolding applied ledger_of receipts_of deposit_of collection_of medical_of arra
 step h e k = rw (k.on_ledger.arrears_are e.day)
 
 receipt_same : (h : History) (e : Event) → Laws h → receipt_at (account_of h) e ≡ receipt_after h e
-receipt_same h e k = on (is payment e) (λ q. rw (q, k.on_receipts.count_is) (omega (arith, receipts h))) (λ q. rw q)
+receipt_same h e k = on (is payment e) (λ q. rw (q, k.on_receipts.count_is e.option, eq-eqb e.option e.option refl) (omega (arith, receipts e.option h))) (λ q. rw q)
 
 answer_same : (h : History) (e : Event) → Laws h → answer_at (account_of h) e ≡ answer h e
 unfolding answer_at

@@ -35,7 +35,7 @@ refused_in (x ∷ xs) = cond (accepts x) 0 1 + refused_in xs
 -- m is the memory of the account after the list es, said are its answers, h the accepted events of es
 pub record ClaimOf (m : List ℕ) (said : List Answer) (es : List Event) (h : History) : Type 0 where
   -- each answer is the one that the events alone give: accepted exactly when no number refuses the event
-  -- after those accepted before it, else that number; a payment's receipt is the count of accepted payments
+  -- after those accepted before it, else that number; a payment's receipt is the count of its till's accepted payments
   pub answered : said ≡ answers_by es
   -- in document 01's numbers: that of the first row that refuses, 0 for accepted; the receipt, 0 for none
   pub numbered : map number_of said ≡ refusals_after [] es

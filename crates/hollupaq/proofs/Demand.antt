@@ -17,6 +17,7 @@ use Rattle.rules.specs.Answer.{receipt_of}
 use Rattle.rules.specs.Accepted.{accepted}
 use Rattle.rules.proofs.Lawful.{accepted_lawful}
 use Rattle.rules.proofs.Bounds.{arrears_charged, charged_limit}
+use Rattle.receipts.specs.Receipts.{count_by}
 use Rattle.account.specs.State.{State, account_size, fresh_words, state_on, passes}
 use Rattle.account.specs.Post.{refusal_at, answer_at, answer_to, words_after}
 use Rattle.account.specs.Many.{account_at, has_account, answer_at_of}
@@ -27,18 +28,18 @@ use Rattle.hollupaq.specs.Library.{answer_word, Keeps, Begun, KeptClaim}
 use Rattle.hollupaq.proofs.Told.{told_word, said_word}
 
 -- ---- a receipt counts payments, of which there are no more than cents in the limit
-receipt_at_lem : (s : State) (e : Event) → s.receipts.count ≤ limit → receipt_of (answer_at s e) ≤ limit + 1
+receipt_at_lem : (s : State) (e : Event) → count_by s.receipts e.option ≤ limit → receipt_of (answer_at s e) ≤ limit + 1
 unfolding answer_at
 receipt_at_lem s e h =
     on (eqb (refusal_at s e) 0)
-    (λ q. rw q (cond_both (is payment e) (s.receipts.count + 1) 0 (λ n. n ≤ limit + 1) (λ p. omega arith) (λ p. omega arith)))
+    (λ q. rw q (cond_both (is payment e) (count_by s.receipts e.option + 1) 0 (λ n. n ≤ limit + 1) (λ p. omega arith) (λ p. omega arith)))
     (λ q. rw q (omega arith))
 
 pub receipt_small : (m : List ℕ) (e : Event) → receipt_of (answer_to m e) ≤ limit + 1
 unfolding answer_to
 receipt_small m e =
     on (passes m)
-    (λ q. rw q (receipt_at_lem (state_on m) e (passed_fit m q).fit.receipts_fit.count_le))
+    (λ q. rw q (receipt_at_lem (state_on m) e ((passed_fit m q).fit.receipts_fit.count_le e.option)))
     (λ q. rw q (omega arith))
 
 pub receipt_small_at : (i : ℕ) (all : List ℕ) (e : Event) → receipt_of (answer_at_of i all e) ≤ limit + 1

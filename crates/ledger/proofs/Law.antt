@@ -21,7 +21,7 @@ use Rattle.rules.specs.Deposit.{held}
 use Rattle.rules.specs.Money.{credit_by, credited, credits, charges, charge, charged, owed, items, unpaid, sum_of, keep, open_items, due, arrears}
 use Rattle.rules.specs.Range.{in_range}
 use Rattle.rules.specs.Limits.{limit, most_open, grace}
-use Rattle.rules.specs.Receipts.{returnable}
+use Rattle.rules.specs.Receipts.{named_payment}
 use Rattle.rules.specs.Accepted.{view_of, Lawful}
 use Rattle.rules.proofs.Items.{keep_append, keep_keep, keep_same, keep_short, sum_keep, sum_mono}
 use Rattle.rules.proofs.Sums.{total_grows, credited_step, no_charge}
@@ -140,7 +140,7 @@ joins h e l w s =
       open_are = enter_open l s.formed e.day (charge h e) n ∙ rw (q, s.open_are, c);
     }))
     (λ q.
-    let z : charge h e ≡ 0 = no_charge (charged h) (credits h) (returnable h e.amount) e q in
+    let z : charge h e ≡ 0 = no_charge (charged h) (credits h) (named_payment h e) e q in
     rw q
     (record {
       formed = s.formed;

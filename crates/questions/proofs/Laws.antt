@@ -35,7 +35,7 @@ laws h w =
     let c = collection_law h w in
     let m = medical_law h w in
     let a = arrangement_law h w in
-    let g : Ringed (account_of h) = record { receipts_ring = r.size; ledger_ring = l.size } in
+    let g : Ringed (account_of h) = record { receipts_counts = r.counts_size; receipts_ring = r.size; ledger_ring = l.size } in
     let b = account_back (account_of h) g in
     let p : state_ok (account_of h) ≡ true = rw (le-leb _ _ (in_days h w), c.passes, d.passes, m.passes, a.passes, r.passes, l.passes) in
     record {

@@ -9,7 +9,7 @@ use Rattle.rules.specs.History.{is}
 unfoldable pub looks_at_debt : Event → Bool
 looks_at_debt e = is arrangement e || is final_notice e || is disconnection e || is reconnection e
 
--- the View without what e's kind does not look at: the payment of a receipt is for a returned payment, whether the deposit is
+-- the View without what e's kind does not look at: the payment that it names is for a returned payment, whether the deposit is
 -- earned for its move, and notices, calls, certificates and arrangements for the kinds that look at the debt
 abbrev pub seen_of : View → Event → View
 seen_of v e =

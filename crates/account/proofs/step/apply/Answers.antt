@@ -10,7 +10,7 @@ returns-then-is c =
     let b = steps_are a.m.now c.move_money.new.m c.keep_file.new.m c.set_service.new.m a.posted.event a.offer.view c.move_money.ensures
     c.keep_file.ensures c.set_service.ensures in
     let q = sym c.is.ensures ∙ c.if-is.true in
-    let r = receipt_by a.m.now c.set_service.new.m a.posted.event a.offer.view c.count-n.result b c.count-n.ensures in
+    let r = receipt_by a.m.now c.set_service.new.m a.posted.event a.offer.view c.count-n.result c.requires.fit.words_are a.posted.well_formed b c.count-n.ensures in
     let y : cond (is payment a.posted.event) c.count-n.result 0 ≡ c.count-n.result = rw q in
     record { became = b; receipt_is = sym y ∙ r }
 
