@@ -10,7 +10,8 @@ const LARGEST_AMOUNT: u64 = 10_000_000_000;
 const LARGEST_DEPOSIT: u64 = 100_000_000;
 const ENOUGH_ARREARS: u64 = 5_000;
 const OPEN: usize = 64;
-const KNOWN: u64 = 32;
+const TILLS: usize = 5;
+const KNOWN: u64 = 16;
 const FEES: [u64; 8] = [0, 7_500, 15_000, 3_000, 1_500, 2_500, 2_000, 7_500];
 const NOTICE_FEE: usize = 4;
 const RETURN_FEE: usize = 5;
@@ -74,9 +75,10 @@ pub struct Account {
     certified_to: u32,
     approved_to: u32,
     arrangement: Arrangement,
-    payments: u64,
+    // Of each till: how many payments it took, and the newest of them by receipt, 0 for one that was returned.
+    payments: [u64; TILLS],
+    recent: [[u64; KNOWN as usize]; TILLS],
     refused: u64,
-    recent: [u64; KNOWN as usize],
     items: [Item; OPEN],
 }
 
@@ -108,9 +110,9 @@ impl Account {
                 debt: 0,
                 paid: 0,
             },
-            payments: 0,
+            payments: [0; TILLS],
+            recent: [[0; KNOWN as usize]; TILLS],
             refused: 0,
-            recent: [0; KNOWN as usize],
             items: [Item { day: 0, upto: 0 }; OPEN],
         }
     }
@@ -278,33 +280,36 @@ impl Account {
 
     #[inline]
     fn payment(&mut self, e: Record) -> u8 {
-        if e.option != 0 || e.amount.wrapping_sub(1) >= LARGEST_AMOUNT {
+        let till = e.option as usize;
+        if till >= TILLS || e.amount.wrapping_sub(1) >= LARGEST_AMOUNT {
             return 3;
         }
         let number = self.credit(e.amount);
         if number == 0 {
-            self.payments += 1;
-            self.recent[(self.payments % KNOWN) as usize] = e.amount;
+            self.payments[till] += 1;
+            self.recent[till][(self.payments[till] % KNOWN) as usize] = e.amount;
             self.arrangement.paid += e.amount as i64;
         }
         number
     }
 
     fn returned(&mut self, e: Record) -> u8 {
-        if e.option != 0 || e.amount == 0 {
+        let till = e.option as usize;
+        if till >= TILLS || e.amount == 0 {
             return 3;
         }
-        if e.amount > self.payments || self.payments - e.amount >= KNOWN {
+        let payments = self.payments[till];
+        if e.amount > payments || payments - e.amount >= KNOWN {
             return 6;
         }
         let at = (e.amount % KNOWN) as usize;
-        let payment = self.recent[at];
+        let payment = self.recent[till][at];
         if payment == 0 {
             return 6;
         }
         let number = self.charge(e.day, payment + FEES[RETURN_FEE]);
         if number == 0 {
-            self.recent[at] = 0;
+            self.recent[till][at] = 0;
             self.arrangement.paid -= payment as i64;
         }
         number

@@ -4,7 +4,8 @@ use crate::peer::collection::{called, live_notice};
 use crate::peer::deposit::{full_since, held, in_a_year, required};
 use crate::peer::kind::*;
 use crate::peer::money::{charge, received, received_in_all, Money};
-use crate::peer::rows::LARGEST_TOTAL;
+use crate::peer::receipts::{payments, returnable, KNOWN, TILLS};
+use crate::peer::rows::{refusal, LARGEST_TOTAL};
 use crate::peer::{medical, receipts, LAST_DAY};
 use tools::event::Event;
 
@@ -19,7 +20,7 @@ pub struct Case<'a> {
 type Edge = (&'static str, fn(&Case) -> bool);
 
 /// A name for each bound and what meets it.
-pub const EDGES: [Edge; 76] = [
+pub const EDGES: [Edge; 87] = [
     ("final notice at arrears of 5,000", |c| {
         c.is(NOTICE, 0) && c.arrears() == 5_000
     }),
@@ -97,6 +98,10 @@ pub const EDGES: [Edge; 76] = [
     ("cut refused where all that was due is paid", |c| {
         c.is(CUT, 14) && c.ahead_by(0)
     }),
+    (
+        "cut refused where two tills' payments keep an arrangement",
+        |c| c.is(CUT, 14) && c.no_till_alone(),
+    ),
     ("cut where an arrangement lacks one cent", |c| {
         c.is(CUT, 0) && c.ahead_by(-1)
     }),
@@ -183,16 +188,47 @@ pub const EDGES: [Edge; 76] = [
     ("payout refused for one cent", |c| {
         c.is(PAYOUT, 7) && c.money.owed() < 0 && c.amount() == 1 - c.money.owed()
     }),
-    ("the 32nd newest payment returned", |c| {
-        c.is(RETURNED, 0) && c.receipt_age() == Some(31)
+    ("the 16th newest payment of its till returned", |c| {
+        c.is(RETURNED, 0) && c.newer_there() == Some(15)
     }),
-    ("the 33rd newest payment refused", |c| {
-        c.is(RETURNED, 6) && c.receipt_age() == Some(32)
+    ("the 17th newest payment of its till refused", |c| {
+        c.is(RETURNED, 6) && c.newer_there() == Some(16) && !c.was_returned()
+    }),
+    (
+        "the 17th newest refused where some of the 16 were returned",
+        |c| c.is(RETURNED, 6) && c.newer_there() == Some(16) && c.newer_returned(),
+    ),
+    ("the 17th newest payment of all tills returned", |c| {
+        c.is(RETURNED, 0) && c.newer_anywhere() == Some(16)
+    }),
+    (
+        "the 33rd newest of all tills, or an older one, returned",
+        |c| c.is(RETURNED, 0) && c.newer_anywhere() >= Some(32),
+    ),
+    ("a payment returned while every till knows 16", |c| {
+        c.is(RETURNED, 0) && (0..TILLS).all(|till| payments(c.accepted, till) >= KNOWN)
     }),
     ("a payment returned twice refused", |c| {
-        c.is(RETURNED, 6)
-            && receipts::returned(c.accepted, c.event.amount)
-            && c.receipt_age() < Some(32)
+        c.is(RETURNED, 6) && c.newer_there() < Some(16) && c.was_returned()
+    }),
+    (
+        "a receipt returned that was returned at another till",
+        |c| c.is(RETURNED, 0) && c.returned_elsewhere(),
+    ),
+    ("a receipt refused that only another till has", |c| {
+        c.is(RETURNED, 6) && c.newer_there().is_none() && c.returnable_elsewhere()
+    }),
+    ("a payment at till 4", |c| {
+        c.is(PAYMENT, 0) && c.event.option == 4
+    }),
+    ("a payment refused at till 5", |c| {
+        c.is(PAYMENT, 3) && c.event.option == 5 && c.fine_at_a_till()
+    }),
+    ("a payment returned at till 4", |c| {
+        c.is(RETURNED, 0) && c.event.option == 4
+    }),
+    ("a return refused at till 5", |c| {
+        c.is(RETURNED, 3) && c.event.option == 5 && c.fine_at_a_till()
     }),
     ("the 64th open item", |c| {
         c.answer == 0 && c.item().is_some() && c.money.open_items().len() == 63
@@ -346,6 +382,21 @@ impl Case<'_> {
         i64::from(self.event.day) < last.end() && paid >= last.due(self.event.day)
     }
 
+    /// Whether an arrangement wants more than was paid after it at any one till.
+    fn no_till_alone(&self) -> bool {
+        let Some(last) = Arrangement::last(self.accepted, self.money) else {
+            return false;
+        };
+        let mut paid = [0; TILLS as usize];
+        for e in &self.accepted[last.event + 1..] {
+            if e.kind == PAYMENT {
+                paid[usize::from(e.option)] += e.amount as i64;
+            }
+        }
+        let due = last.due(self.event.day);
+        paid.iter().all(|&paid| paid < due)
+    }
+
     /// Whether an arrangement has nothing due yet, and less than nothing was paid after it.
     fn below_nothing(&self) -> bool {
         let Some(last) = Arrangement::last(self.accepted, self.money) else {
@@ -403,9 +454,54 @@ impl Case<'_> {
         required(self.accepted) - held(self.accepted)
     }
 
-    /// How many payments are newer than the one returned.
-    fn receipt_age(&self) -> Option<u64> {
-        receipts::payments(self.accepted).checked_sub(self.event.amount)
+    /// How many payments of its till are newer than the one returned, if the till has it.
+    fn newer_there(&self) -> Option<u64> {
+        payments(self.accepted, self.event.option).checked_sub(self.event.amount)
+    }
+
+    /// How many payments of all tills are newer than the one returned.
+    fn newer_anywhere(&self) -> Option<usize> {
+        let newest_first = self.accepted.iter().rev().filter(|e| e.kind == PAYMENT);
+        let mut of_till = newest_first
+            .enumerate()
+            .filter(|(_, e)| e.option == self.event.option);
+        let (newer, _) = of_till.nth(self.newer_there()? as usize)?;
+        Some(newer)
+    }
+
+    fn was_returned(&self) -> bool {
+        receipts::returned(self.accepted, self.event.option, self.event.amount)
+    }
+
+    /// Whether it was not returned, but one that is newer at its till was.
+    fn newer_returned(&self) -> bool {
+        let mut returns = self.accepted.iter().filter(|e| e.kind == RETURNED);
+        let newer = |e: &Event| e.option == self.event.option && e.amount > self.event.amount;
+        !self.was_returned() && returns.any(newer)
+    }
+
+    fn other_tills(&self) -> impl Iterator<Item = u8> {
+        let own = self.event.option;
+        (0..TILLS).filter(move |&till| till != own)
+    }
+
+    fn returned_elsewhere(&self) -> bool {
+        self.other_tills()
+            .any(|till| receipts::returned(self.accepted, till, self.event.amount))
+    }
+
+    fn returnable_elsewhere(&self) -> bool {
+        self.other_tills()
+            .any(|till| returnable(self.accepted, till, self.event.amount))
+    }
+
+    /// Whether only the till is wrong: there is one at which the event would be accepted.
+    fn fine_at_a_till(&self) -> bool {
+        let at = |option| Event {
+            option,
+            ..self.event
+        };
+        (0..TILLS).any(|till| refusal(self.accepted, at(till)) == 0)
     }
 
     fn item(&self) -> Option<i64> {

@@ -6,12 +6,22 @@ pub fn bill(day: u32, amount: u64) -> Event {
     Event::new(BILL, 0, day, amount)
 }
 
+/// At till 0.
 pub fn payment(day: u32, amount: u64) -> Event {
-    Event::new(PAYMENT, 0, day, amount)
+    payment_at(0, day, amount)
 }
 
+pub fn payment_at(till: u8, day: u32, amount: u64) -> Event {
+    Event::new(PAYMENT, till, day, amount)
+}
+
+/// At till 0.
 pub fn returned(day: u32, receipt: u64) -> Event {
-    Event::new(RETURNED, 0, day, receipt)
+    returned_at(0, day, receipt)
+}
+
+pub fn returned_at(till: u8, day: u32, receipt: u64) -> Event {
+    Event::new(RETURNED, till, day, receipt)
 }
 
 pub fn fee(day: u32, number: u8) -> Event {

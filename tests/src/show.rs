@@ -16,6 +16,7 @@ pub fn event(event: Event) -> String {
     let words = match kind {
         FEE => format!("fee {option}"),
         ARRANGEMENT => format!("arrangement {option}"),
+        PAYMENT | RETURNED if option != 0 => format!("{} {amount} at till {option}", name(kind)),
         RECONNECTION if option == 1 => String::from("reconnection after hours"),
         _ if amount != 0 => format!("{} {amount}", name(kind)),
         _ => String::from(name(kind)),
@@ -107,6 +108,8 @@ mod tests {
     #[test]
     fn an_event_is_read_aloud() {
         assert_eq!(event(make::payment(131, 4_000)), "day 131 payment 4000");
+        let at_till = make::returned_at(4, 131, 7);
+        assert_eq!(event(at_till), "day 131 returned 7 at till 4");
         assert_eq!(event(make::cut(131)), "day 131 cut");
         assert_eq!(event(make::fee(7, 2)), "day 7 fee 2");
         assert_eq!(event(make::arrangement(7, 2)), "day 7 arrangement 2");

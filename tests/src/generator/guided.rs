@@ -2,7 +2,7 @@
 use super::Writer;
 use crate::peer::arrangement::Arrangement;
 use crate::peer::kind::*;
-use crate::peer::money::{late_charge, received_in_all};
+use crate::peer::money::{late_charge, received_in_all, Money};
 use crate::peer::rows::{LARGEST_AMOUNT, LARGEST_DEPOSIT, LARGEST_TOTAL};
 use crate::peer::{deposit, receipts, LAST_DAY};
 use tools::event::Event;
@@ -16,6 +16,8 @@ impl Writer<'_> {
 
     pub fn guided_event(&mut self, kind: u8, day: u32) -> Event {
         let option = match kind {
+            PAYMENT => self.till(),
+            RETURNED => self.till_with_payments(),
             FEE => self.random.between(1, 3) as u8,
             ARRANGEMENT => self.random.between(2, 6) as u8,
             RECONNECTION => self.random.below(2) as u8,
@@ -25,15 +27,15 @@ impl Writer<'_> {
             kind,
             option,
             day,
-            amount: self.guided_amount(kind, day),
+            amount: self.guided_amount(kind, option, day),
         }
     }
 
-    fn guided_amount(&mut self, kind: u8, day: u32) -> u64 {
+    fn guided_amount(&mut self, kind: u8, option: u8, day: u32) -> u64 {
         match kind {
             BILL => self.bill_amount(),
             PAYMENT => self.payment_amount(day),
-            RETURNED => self.receipt(),
+            RETURNED => self.receipt(option),
             DEPOSIT_ASKED => self.asked_amount(),
             DEPOSIT_PAID => self.paid_amount(),
             PAYOUT => self.payout_amount(),
@@ -75,8 +77,7 @@ impl Writer<'_> {
         let arrears = money.arrears(day);
         let oldest = money.open_items().first().map_or(0, |item| item.1);
         let room = LARGEST_TOTAL - received_in_all(self.accepted());
-        let behind = Arrangement::last(self.accepted(), &money)
-            .map_or(0, |last| last.due(day) - last.paid(self.accepted()));
+        let behind = self.behind(&money, day);
         let some = self.random.between(1, 20_000) as i64;
         let near = self.random.between(0, 2) as i64 - 1;
         let wanted = [
@@ -93,6 +94,12 @@ impl Writer<'_> {
         self.amount_of(&wanted)
     }
 
+    /// What an arrangement still wants to stand on a day.
+    pub fn behind(&self, money: &Money, day: u32) -> i64 {
+        let last = Arrangement::last(self.accepted(), money);
+        last.map_or(0, |last| last.due(day) - last.paid(self.accepted()))
+    }
+
     /// One of the sums wanted that an event can carry. A very large one would hide all else, and is seldom taken.
     fn amount_of(&mut self, wanted: &[i64]) -> u64 {
         for _ in 0..8 {
@@ -105,15 +112,47 @@ impl Writer<'_> {
         self.random.between(1, 9_000)
     }
 
-    /// A receipt, often one next to the last that is still known.
-    fn receipt(&mut self) -> u64 {
-        let newest = receipts::payments(self.accepted());
+    /// Any till, half of the time 0.
+    pub fn till(&mut self) -> u8 {
+        self.random.pick(&[0, 0, 0, 0, 1, 2, 3, 4])
+    }
+
+    /// The till of some payment, so that one with many is named often; once in a while any.
+    fn till_with_payments(&mut self) -> u8 {
+        let payments = self.accepted().iter().filter(|e| e.kind == PAYMENT);
+        let tills: Vec<u8> = payments.map(|e| e.option).collect();
+        if tills.is_empty() || self.random.once_in(8) {
+            return self.till();
+        }
+        self.random.pick(&tills)
+    }
+
+    /// A receipt of a till, often one next to the last that is still known there, or one that another till has or has
+    /// seen returned.
+    fn receipt(&mut self, till: u8) -> u64 {
+        let newest = receipts::payments(self.accepted(), till);
         let some = self.random.between(1, newest.max(1));
-        let recent = newest.saturating_sub(self.random.below(4)).max(1);
-        let known = newest.saturating_sub(31).max(1);
-        let forgotten = newest.saturating_sub(32).max(1);
-        self.random
-            .pick(&[some, some, recent, recent, known, forgotten, newest + 1])
+        let recent = newest.saturating_sub(self.random.below(4));
+        let known = newest.saturating_sub(receipts::KNOWN - 1);
+        let forgotten = newest.saturating_sub(receipts::KNOWN);
+        let other = self.till();
+        let elsewhere = receipts::payments(self.accepted(), other);
+        let mut events = self.accepted().iter();
+        let returned = events.rfind(|e| e.kind == RETURNED).map_or(1, |e| e.amount);
+        let receipt = self.random.pick(&[
+            some,
+            some,
+            recent,
+            recent,
+            recent,
+            known,
+            known,
+            forgotten,
+            newest + 1,
+            elsewhere,
+            returned,
+        ]);
+        receipt.max(1)
     }
 
     fn asked_amount(&mut self) -> u64 {

@@ -34,7 +34,7 @@ impl Writer<'_> {
         match self.random.below(5) {
             0 => event.day = self.random.pick(&[LAST_DAY + 1, u32::MAX, 1 << 31]),
             1 => event.day = today.saturating_sub(self.random.between(1, 30) as u32),
-            2 => event.option = self.random.pick(&[0, 1, 2, 4, 6, 7, 8, 128, 255]),
+            2 => event.option = self.random.pick(&[0, 1, 2, 3, 4, 5, 6, 7, 8, 128, 255]),
             3 => event.amount = self.odd_amount(),
             _ => {}
         }

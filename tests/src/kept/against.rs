@@ -56,7 +56,8 @@ fn by_peer(events: &[Event], posted: &Posted) -> Vec<(Answer, i64)> {
         accepted += usize::from(number == 0);
         let answer = match number {
             0 if event.kind == PAYMENT => {
-                Answer::Accepted(receipts::payments(&posted.accepted[..accepted]))
+                let accepted = &posted.accepted[..accepted];
+                Answer::Accepted(receipts::payments(accepted, event.option))
             }
             0 => Answer::Accepted(0),
             _ => Answer::Refused(number),

@@ -41,10 +41,10 @@ impl Arrangement {
     /// Payments less returned payments posted after it.
     pub fn paid(&self, accepted: &[Event]) -> i64 {
         let mut paid = 0;
-        for event in &accepted[self.event + 1..] {
+        for &event in &accepted[self.event + 1..] {
             match event.kind {
                 PAYMENT => paid += event.amount as i64,
-                RETURNED => paid -= receipts::payment(accepted, event.amount).unwrap_or(0),
+                RETURNED => paid -= receipts::named(accepted, event).unwrap_or(0),
                 _ => {}
             }
         }

@@ -114,7 +114,7 @@ pub fn fee(number: u8) -> i64 {
 pub fn charge(before: &[Event], owed: i64, event: Event) -> Option<i64> {
     match event.kind {
         BILL => Some(event.amount as i64 + late_charge(owed)),
-        RETURNED => Some(receipts::payment(before, event.amount).unwrap_or(0) + fee(5)),
+        RETURNED => Some(receipts::named(before, event).unwrap_or(0) + fee(5)),
         FEE => Some(fee(event.option)),
         NOTICE => Some(fee(4)),
         RECONNECTION => Some(fee(6 + event.option)),

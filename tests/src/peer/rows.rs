@@ -6,7 +6,7 @@ use super::deposit::{earned, full_since, held, required};
 use super::kind::*;
 use super::medical::{approved, certified};
 use super::money::{charge, received, received_in_all, Money};
-use super::receipts::returnable;
+use super::receipts::{returnable, TILLS};
 use tools::event::Event;
 
 /// The largest amount A.
@@ -34,7 +34,7 @@ fn refuses(row: u8, accepted: &[Event], money: &Money, event: Event) -> bool {
         (4, _) => service(accepted) == Service::Closed,
         (5, NOTICE | CALL | CUT) => service(accepted) != Service::On,
         (5, RECONNECTION) => service(accepted) != Service::Off,
-        (6, RETURNED) => !returnable(accepted, event.amount),
+        (6, RETURNED) => !returnable(accepted, event.option, event.amount),
         (7, _) => over(accepted, money, event),
         (8, DEPOSIT_MOVED) => !earned(accepted, day),
         (9, ARRANGEMENT) => money.arrears(day) == 0 || stands(accepted, money, day),
@@ -58,10 +58,9 @@ fn refuses(row: u8, accepted: &[Event], money: &Money, event: Event) -> bool {
 pub fn well_formed(event: Event) -> bool {
     let Event { option, amount, .. } = event;
     match event.kind {
-        BILL | PAYMENT | DEPOSIT_PAID | PAYOUT => {
-            option == 0 && (1..=LARGEST_AMOUNT).contains(&amount)
-        }
-        RETURNED => option == 0 && amount >= 1,
+        BILL | DEPOSIT_PAID | PAYOUT => option == 0 && (1..=LARGEST_AMOUNT).contains(&amount),
+        PAYMENT => option < TILLS && (1..=LARGEST_AMOUNT).contains(&amount),
+        RETURNED => option < TILLS && amount >= 1,
         FEE => (1..=3).contains(&option) && amount == 0,
         DEPOSIT_ASKED => option == 0 && (1..=LARGEST_DEPOSIT).contains(&amount),
         CERTIFICATE => option == 0 && (1..=180).contains(&amount),

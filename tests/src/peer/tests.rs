@@ -102,8 +102,8 @@ fn row_three_at_the_ends_of_each_range() {
     // Kind, the ends of its option, the ends of its amount.
     let ranges = [
         (1, (0, 0), (1, most)),
-        (2, (0, 0), (1, most)),
-        (3, (0, 0), (1, u64::MAX)),
+        (2, (0, 4), (1, most)),
+        (3, (0, 4), (1, u64::MAX)),
         (4, (1, 3), (0, 0)),
         (5, (0, 0), (1, 100_000_000)),
         (6, (0, 0), (1, most)),
@@ -129,18 +129,65 @@ fn row_three_at_the_ends_of_each_range() {
 }
 
 #[test]
-fn row_six_at_the_newest_32() {
-    let mut payments = vec![payment(0, 10); 40];
-    for receipt in 1..=41 {
-        payments.push(returned(0, receipt));
-        let answer = last_answer(&payments);
-        assert_eq!(
-            answer == 0,
-            (9..=40).contains(&receipt),
-            "receipt {receipt}"
-        );
-        payments.pop();
+fn row_six_at_the_newest_16_of_a_till() {
+    // All 20 of till 2 are older than the last 39 of till 0; till 4 has none.
+    let mut payments = vec![payment(0, 10)];
+    payments.extend([payment_at(2, 0, 10); 20]);
+    payments.extend([payment(0, 10); 39]);
+    for (till, first, last) in [(0, 25, 40), (2, 5, 20), (4, 1, 0)] {
+        for receipt in 1..=41 {
+            payments.push(returned_at(till, 0, receipt));
+            let known = (first..=last).contains(&receipt);
+            let answer = last_answer(&payments);
+            assert_eq!(answer == 0, known, "receipt {receipt} of till {till}");
+            payments.pop();
+        }
     }
+}
+
+#[test]
+fn a_returned_payment_keeps_its_place_among_the_16() {
+    let mut history = vec![payment_at(1, 0, 10); 16];
+    history.extend((2..=16).map(|receipt| returned_at(1, 0, receipt)));
+    let then = |events: &[Event]| last_answer(&[&history[..], events].concat());
+    assert_eq!(then(&[returned_at(1, 0, 1)]), 0);
+    assert_eq!(then(&[payment_at(3, 0, 10), returned_at(1, 0, 1)]), 0);
+    assert_eq!(then(&[payment_at(1, 0, 10), returned_at(1, 0, 1)]), 6);
+}
+
+#[test]
+fn each_till_counts_its_own_receipts() {
+    let history = [
+        payment_at(4, 0, 100),
+        payment_at(1, 0, 20),
+        payment_at(4, 0, 3),
+        payment_at(0, 0, 5_000),
+    ];
+    let counted = [0, 1, 2, 3, 4].map(|till| receipts::payments(&history, till));
+    assert_eq!(counted, [1, 1, 0, 0, 2]);
+    // What is charged again is the payment of that till and number, with fee 5.
+    let paid = 5_123;
+    for (till, receipt, amount) in [(0, 1, 5_000), (1, 1, 20), (4, 1, 100), (4, 2, 3)] {
+        let event = returned_at(till, 0, receipt);
+        assert_eq!(receipts::named(&history, event), Some(amount));
+        let after = standing_of(&[&history[..], &[event]].concat());
+        assert_eq!(after.owed, amount + 2_500 - paid, "{event:?}");
+    }
+}
+
+#[test]
+fn a_receipt_is_returned_once_at_each_till_that_has_it() {
+    let mut history = vec![payment_at(1, 0, 10), payment_at(4, 0, 10)];
+    for (till, answer) in [(1, 0), (1, 6), (4, 0), (4, 6), (0, 6), (5, 3)] {
+        let event = returned_at(till, 0, 1);
+        history.push(event);
+        assert_eq!(last_answer(&history), answer, "{event:?}");
+        if answer != 0 {
+            history.pop();
+        }
+    }
+    assert_eq!(last_answer(&[payment_at(4, 0, 10)]), 0);
+    assert_eq!(last_answer(&[payment_at(5, 0, 10)]), 3);
 }
 
 #[test]
@@ -304,6 +351,26 @@ fn an_arrangement_is_in_force_while_it_is_paid() {
     // A returned payment does not count, nor does its fee.
     let returned = [payment(20, 334), returned(20, 1), payment(20, 333)];
     assert_eq!(in_force(&returned, &[49, 50]), [true, false]);
+}
+
+#[test]
+fn an_arrangement_counts_the_payments_of_all_tills() {
+    let made = [
+        payment_at(1, 0, 9),
+        payment_at(3, 0, 7),
+        bill(0, 1_016),
+        arrangement(20, 3),
+    ];
+    let in_force = |events: &[Event], day| on(&[&made[..], events].concat(), day).in_force;
+    let paid = [payment_at(1, 20, 300), payment_at(3, 20, 34)];
+    assert!(in_force(&paid, 79));
+    assert!(!in_force(&paid, 80));
+    assert!(!in_force(&paid[..1], 50));
+    // Of 341 paid, 7 came back: what till 3 has under 1, and not the 9 of till 1.
+    let returned = [paid[0], payment_at(3, 20, 41), returned_at(3, 20, 1)];
+    assert!(in_force(&returned, 50));
+    let cent_less = [paid[0], payment_at(3, 20, 40), returned_at(3, 20, 1)];
+    assert!(!in_force(&cent_less, 50));
 }
 
 #[test]

@@ -85,6 +85,9 @@ pub fn used_up(w: &mut Writer) {
 pub fn arrangements(w: &mut Writer) {
     let today = w.today();
     w.guided(PAYMENT, today);
+    if w.random.once_in(4) {
+        paid_at_two_tills(w);
+    }
     for _ in 0..w.random.between(1, 3) {
         let bills = w.random.between(1, 3);
         w.walk(bills, &[BILL]);
@@ -108,20 +111,39 @@ pub fn arrangements(w: &mut Writer) {
     returned_before_cut(w);
 }
 
+/// A cut on the day from which an arrangement wants its first part: that was paid at two tills, or all but a cent of it.
+fn paid_at_two_tills(w: &mut Writer) {
+    let today = w.today();
+    w.post(bill(today, 40_000));
+    w.guided(ARRANGEMENT, today.saturating_add(20));
+    let due = w.behind(&w.money(), w.later(30)).max(2) as u64;
+    let first = w.random.between(1, due - 1);
+    let short = w.random.below(2);
+    w.post(notice(w.later(25)));
+    for amount in [first, due - first - short] {
+        let till = w.till();
+        w.post(payment_at(till, w.today(), amount));
+    }
+    w.post(call(w.later(4)));
+    w.post(cut(w.later(1)));
+}
+
 /// A check that was paid before an arrangement comes back after it: less than nothing is then paid under it.
 fn returned_before_cut(w: &mut Writer) {
     let today = w.today();
     w.post(bill(today, 9_000));
     let amount = w.random.between(1, 3_000);
-    w.post(payment(today, amount));
+    let till = w.till();
+    w.post(payment_at(till, today, amount));
     w.guided(ARRANGEMENT, today.saturating_add(20));
     w.post(notice(w.today()));
-    let receipt = receipts::payments(w.accepted());
+    let receipt = receipts::payments(w.accepted(), till);
     let day = w.within(0, 3);
-    w.post(returned(day, receipt));
+    w.post(returned_at(till, day, receipt));
     if w.random.once_in(2) {
         let back = w.random.between(amount - 1, amount);
-        w.post(payment(day, back.max(1)));
+        let till = w.till();
+        w.post(payment_at(till, day, back.max(1)));
     }
     w.post(call(w.later(4)));
     w.post(cut(w.later(1)));

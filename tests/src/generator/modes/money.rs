@@ -5,23 +5,59 @@ use crate::make::*;
 use crate::peer::deposit;
 use crate::peer::kind::*;
 use crate::peer::money::{late_charge, received_in_all};
+use crate::peer::receipts::TILLS;
 use crate::peer::rows::{LARGEST_AMOUNT, LARGEST_TOTAL};
+use tools::event::Event;
 
 pub fn returned_checks(w: &mut Writer) {
-    let payments = w.random.between(1, 40);
-    for _ in 0..payments {
-        let day = w.within(0, 2);
-        let amount = w.random.between(1, 5_000);
-        w.post(payment(day, amount));
-        if w.random.once_in(3) {
-            w.guided(RETURNED, day);
-        }
+    match w.random.once_in(4) {
+        true => tills_in_turn(w),
+        false => busy_till(w),
     }
+    past_the_last_till(w);
     let steps = w.random.between(5, 40);
     w.walk(
         steps,
         &[BILL, PAYMENT, RETURNED, RETURNED, RETURNED, PAYOUT],
     );
+}
+
+/// One till takes most of the payments, so that it forgets its first while others still know all of theirs.
+fn busy_till(w: &mut Writer) {
+    let busy = w.random.below(TILLS.into()) as u8;
+    for _ in 0..w.random.between(1, 40) {
+        let till = match w.random.once_in(3) {
+            true => w.till(),
+            false => busy,
+        };
+        pay_at(w, till);
+    }
+}
+
+/// All tills take as many payments, until each knows as many as it can or is about to.
+fn tills_in_turn(w: &mut Writer) {
+    for turn in 0..w.random.between(78, 88) {
+        pay_at(w, turn as u8 % TILLS);
+    }
+}
+
+/// A payment of any amount, and now and then a return of it or of one before.
+fn pay_at(w: &mut Writer, till: u8) {
+    let day = w.within(0, 2);
+    let amount = w.random.between(1, 5_000);
+    w.post(payment_at(till, day, amount));
+    if w.random.once_in(3) {
+        w.guided(RETURNED, day);
+    }
+}
+
+/// A payment and a return at the first till that there is not, all else as at one that there is.
+fn past_the_last_till(w: &mut Writer) {
+    for kind in [PAYMENT, RETURNED] {
+        let event = w.guided_event(kind, w.today());
+        let option = TILLS;
+        w.post(Event { option, ..event });
+    }
 }
 
 pub fn open_items(w: &mut Writer) {
