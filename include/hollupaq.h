@@ -36,11 +36,11 @@ extern "C" {
 #endif
 
 /*
- * The version of this header, major * 10000 + minor * 100 + patch: 1.1.0. The
+ * The version of this header, major * 10000 + minor * 100 + patch: 1.2.0. The
  * library's own is told by hollupaq_version; where they differ, the header is
  * not of this library.
  */
-#define HOLLUPAQ_VERSION 10100
+#define HOLLUPAQ_VERSION 10200
 
 uint64_t hollupaq_version(void);
 
@@ -92,8 +92,8 @@ enum {
 /* The kinds of events. A field of which a kind says nothing has to be 0. */
 enum {
     HOLLUPAQ_BILL = 1,          /* amount in cents */
-    HOLLUPAQ_PAYMENT = 2,       /* amount in cents */
-    HOLLUPAQ_RETURNED = 3,      /* amount: the receipt of the payment */
+    HOLLUPAQ_PAYMENT = 2,       /* option: its till, 0 to 4; amount in cents */
+    HOLLUPAQ_RETURNED = 3,      /* option: the till; amount: its receipt there */
     HOLLUPAQ_FEE = 4,           /* option: the number of the fee, 1 to 3 */
     HOLLUPAQ_DEPOSIT_ASKED = 5, /* amount in cents */
     HOLLUPAQ_DEPOSIT_PAID = 6,  /* amount in cents */
@@ -207,13 +207,13 @@ uint64_t hollupaq_book_write(const uint32_t *counts, size_t counts_len,
                              uint8_t *out, size_t out_len);
 
 /* How many words of 64 bits an account takes. */
-#define HOLLUPAQ_WORDS 188
+#define HOLLUPAQ_WORDS 240
 
 /*
  * The first word of every account: a million and the number of the layout. It
  * is above every day, with which accounts began before they had this word.
  */
-#define HOLLUPAQ_LAYOUT 1000001
+#define HOLLUPAQ_LAYOUT 1000002
 
 /*
  * An account is HOLLUPAQ_WORDS words in the caller's memory,
@@ -266,6 +266,9 @@ uint8_t hollupaq_ok(const uint64_t *account, size_t words);
  * it where the event is refused: that (1 to 19) of the rule that refuses it, or
  * HOLLUPAQ_REFUSED_NO_ACCOUNT (0) where the memory is no account. Then nothing
  * is written.
+ *
+ * Each till counts its own receipts from 1. A returned payment names the till
+ * and the receipt, which has to be among the newest 16 of that till.
  */
 uint64_t hollupaq_post(uint64_t *account, size_t words,
                        uint8_t kind, uint8_t option, uint32_t day,

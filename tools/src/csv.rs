@@ -4,7 +4,8 @@ use crate::core::Answer;
 use crate::history::Step;
 use crate::{dates, kinds, words};
 
-/// The columns. `answer` is 0 where the event is accepted, else the number that refuses it.
+/// The columns. `option` is the till of a payment or of a returned one, and `receipt` is counted at that till; `answer` is 0
+/// where the event is accepted, else the number that refuses it.
 pub const COLUMNS: &str = "day,date,event,option,amount,answer,receipt,added,owed,reason";
 
 pub fn tell(steps: &[Step]) -> String {
@@ -61,6 +62,9 @@ mod tests {
             Event::of(14, 131, 0),
             Event::new(2, 3, 73_049, 7),
             Event::of(2, 131, 20_000),
+            Event::new(2, 3, 132, 50),
+            Event::new(3, 3, 132, 1),
+            Event::new(3, 4, 132, 1),
         ];
         let expected = "\
 day,date,event,option,amount,answer,receipt,added,owed,reason
@@ -70,6 +74,9 @@ day,date,event,option,amount,answer,receipt,added,owed,reason
 131,2000-05-11,cut,0,0,12,,0,11075,\"no live final notice, or it is too new or too old\"
 73049,,payment,3,7,1,,0,11075,the day is after 31 December 2199
 131,2000-05-11,payment,0,20000,0,2,0,-8925,
+132,2000-05-12,payment,3,50,0,1,0,-8975,
+132,2000-05-12,returned,3,1,0,,2500,-6425,
+132,2000-05-12,returned,4,1,6,,0,-6425,the till has no payment of this receipt that can be returned
 ";
         assert_eq!(tell(&History::of(&events).1), expected);
         assert_eq!(tell(&[]), format!("{COLUMNS}\n"));

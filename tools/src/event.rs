@@ -18,7 +18,7 @@ impl Event {
         }
     }
 
-    /// An event that names no option.
+    /// An event with option 0: it names none, or till 0.
     pub fn of(kind: u8, day: u32, amount: u64) -> Event {
         Event::new(kind, 0, day, amount)
     }

@@ -15,8 +15,8 @@ const ARRANGEMENT: u8 = 11;
 const FINAL_NOTICE: u8 = 12;
 const CALL: u8 = 13;
 
-/// So many of the newest payments can be returned.
-pub const RETURNABLE: u64 = 32;
+/// So many of the newest payments of each till can be returned.
+pub const RETURNABLE: u64 = 16;
 /// A charge is in arrears so many days after its own.
 pub const IN_ARREARS_AFTER: u32 = 20;
 /// A deposit is earned when it was full for so many days, and looks back on as many.
@@ -110,7 +110,7 @@ pub fn hint(number: u8, event: &Event, before: &Before) -> Option<String> {
     let t = event.day;
     match number {
         2 => last_event(before),
-        6 => Some(receipt(event.amount, before)),
+        6 => Some(receipt(event.option, event.amount, before)),
         8 => Some(deposit(t)),
         9 => arrangement_refused(t, before),
         10 | 16 => arrears(t, before),
@@ -129,18 +129,23 @@ fn last_event(before: &Before) -> Option<String> {
     Some(format!("the last accepted event is of {}", day(last.day)))
 }
 
-fn receipt(receipt: u64, before: &Before) -> String {
-    let accepted = || before.accepted.iter();
-    let returned =
-        accepted().find(|event| event.kind == RETURNED_PAYMENT && event.amount == receipt);
+/// The till is told even where it is 0: a return that names the wrong one is the likely mistake.
+fn receipt(till: u8, receipt: u64, before: &Before) -> String {
+    let of_till = |kind| {
+        let events = before.accepted.iter();
+        events.filter(move |event| event.kind == kind && event.option == till)
+    };
+    let returned = of_till(RETURNED_PAYMENT).find(|event| event.amount == receipt);
     if let Some(event) = returned {
         return format!("it was returned on {}", day(event.day));
     }
-    let payments = accepted().filter(|event| event.kind == PAYMENT).count();
-    if receipt > payments as u64 {
-        return format!("the payments up to here have receipts up to {payments}");
+    match of_till(PAYMENT).count() as u64 {
+        0 => format!("till {till} has given no receipt"),
+        given if receipt > given => format!("till {till} has given receipts up to {given}"),
+        given => format!(
+            "only the newest {RETURNABLE} of {given} payments at till {till} can be returned"
+        ),
     }
-    format!("only the newest {RETURNABLE} of {payments} payments can be returned")
 }
 
 fn deposit(t: u32) -> String {
@@ -360,8 +365,32 @@ mod tests {
         let before = before(&events);
         let told = |number| hint(6, &event(RETURNED_PAYMENT, 7, number), &before).unwrap();
         assert_eq!(told(39), "it was returned on day 6 (2000-01-07)");
-        assert_eq!(told(8), "only the newest 32 of 40 payments can be returned");
-        assert_eq!(told(41), "the payments up to here have receipts up to 40");
+        assert_eq!(
+            told(24),
+            "only the newest 16 of 40 payments at till 0 can be returned"
+        );
+        assert_eq!(told(41), "till 0 has given receipts up to 40");
+    }
+
+    #[test]
+    fn a_receipt_is_looked_for_at_its_till() {
+        let paid = |till| Event::new(PAYMENT, till, 5, 100);
+        let returned = |till, receipt| Event::new(RETURNED_PAYMENT, till, 6, receipt);
+        let mut events = vec![paid(1); 40];
+        events.extend([paid(0), paid(3), paid(3), returned(3, 2), returned(1, 39)]);
+        let before = before(&events);
+        let told = |till, receipt| hint(6, &returned(till, receipt), &before).unwrap();
+        for (till, receipt) in [(3, 2), (1, 39)] {
+            assert_eq!(told(till, receipt), "it was returned on day 6 (2000-01-07)");
+        }
+        // The same receipts of other tills.
+        assert_eq!(told(0, 2), "till 0 has given receipts up to 1");
+        assert_eq!(told(3, 39), "till 3 has given receipts up to 2");
+        assert_eq!(told(2, 1), "till 2 has given no receipt");
+        assert_eq!(
+            told(1, 2),
+            "only the newest 16 of 40 payments at till 1 can be returned"
+        );
     }
 
     #[test]

@@ -3,6 +3,7 @@
 use crate::core::{Account, Answer};
 use crate::event::Event;
 use crate::hints::{self, Before};
+use std::collections::HashMap;
 
 const BILL: u8 = 1;
 const PAYMENT: u8 = 2;
@@ -34,7 +35,7 @@ impl Step {
         }
     }
 
-    /// The receipt of an accepted payment.
+    /// The receipt of an accepted payment, as its till counts them.
     pub fn receipt(&self) -> Option<u64> {
         match self.answer {
             Answer::Accepted(receipt) if receipt > 0 => Some(receipt),
@@ -47,8 +48,8 @@ impl Step {
 #[derive(Clone, Default)]
 pub struct History {
     before: Before,
-    /// The accepted payments by their receipts.
-    payments: Vec<(u64, u64)>,
+    /// The amounts of the accepted payments by till and receipt: two tills may have given the same one.
+    payments: HashMap<(u8, u64), u64>,
     pub refused: usize,
 }
 
@@ -76,7 +77,9 @@ impl History {
         let answer = self.before.post(event);
         match answer {
             Answer::Accepted(0) => {}
-            Answer::Accepted(receipt) => self.payments.push((receipt, event.amount)),
+            Answer::Accepted(receipt) => {
+                self.payments.insert((event.option, receipt), event.amount);
+            }
             Answer::Refused(_) => self.refused += 1,
         }
         let accepted = matches!(answer, Answer::Accepted(_));
@@ -109,9 +112,7 @@ impl History {
         if event.kind != RETURNED {
             return None;
         }
-        let mut payments = self.payments.iter();
-        let meant = payments.find(|(receipt, _)| *receipt == event.amount);
-        meant.map(|&(_, amount)| amount)
+        self.payments.get(&(event.option, event.amount)).copied()
     }
 
     fn hint(&self, event: &Event) -> Option<String> {
@@ -194,6 +195,32 @@ mod tests {
         assert_eq!(steps[3].number(), 6);
         assert_eq!(steps[1].receipt(), Some(2));
         assert_eq!(steps[4].receipt(), None);
+    }
+
+    #[test]
+    fn a_payment_is_returned_at_its_own_till() {
+        let paid = "0 payment 400; 0 payment 300 till=1; 0 payment 200 till=1; ";
+        let told = |events: &str| -> Vec<(u8, Option<u64>)> {
+            let steps = steps(&format!("{paid}{events}"));
+            steps[3..].iter().map(|s| (s.number(), s.again)).collect()
+        };
+        assert_eq!(
+            told("1 returned 1 till=1; 1 returned 1; 1 returned 2; 1 returned 2 till=1"),
+            [(0, Some(300)), (0, Some(400)), (6, None), (0, Some(200))]
+        );
+        assert_eq!(
+            told("1 returned 1 till=2; 1 returned 1 till=5"),
+            [(6, None), (3, None)]
+        );
+        let receipts: Vec<Option<u64>> = steps(paid.trim_end_matches("; "))
+            .iter()
+            .map(Step::receipt)
+            .collect();
+        assert_eq!(receipts, [Some(1), Some(1), Some(2)]);
+        assert_eq!(
+            added(&format!("{paid}1 returned 1 till=1; 1 returned 1")),
+            [0, 0, 0, 2_500, 2_500]
+        );
     }
 
     #[test]

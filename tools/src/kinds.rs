@@ -1,6 +1,7 @@
-//! The sixteen kinds of event: the words of each in a text, and the field that its number stands for.
+//! The sixteen kinds of event: the words of each in a text, and the fields that it names.
 
-/// The field that a kind names; its other field is 0 in every event that the rules accept.
+/// The field that a kind's number stands for. Its other field is 0 in every event that the rules accept, unless that is an
+/// option with a word of its own ([`Kind::beside`]).
 #[derive(Clone, Copy, Debug, PartialEq, Eq)]
 pub enum Named {
     Amount,
@@ -17,6 +18,8 @@ pub struct Kind {
     pub named: Named,
     /// What the number is, for a reader who left it out or wrote it wrongly.
     pub number: &'static str,
+    /// The word for its option, where the kind names one beside its number.
+    pub beside: Option<&'static str>,
 }
 
 const fn kind(word: &'static str, named: Named, number: &'static str) -> Kind {
@@ -25,12 +28,25 @@ const fn kind(word: &'static str, named: Named, number: &'static str) -> Kind {
         others: &[],
         named,
         number,
+        beside: None,
     }
 }
 
 impl Kind {
     const fn or(self, others: &'static [&'static str]) -> Kind {
         Kind { others, ..self }
+    }
+
+    const fn with(self, word: &'static str) -> Kind {
+        Kind {
+            beside: Some(word),
+            ..self
+        }
+    }
+
+    /// What a text calls an option that is not the kind's number.
+    pub fn option_word(&self) -> &'static str {
+        self.beside.unwrap_or("option")
     }
 
     fn is_called(&self, name: &str) -> bool {
@@ -41,9 +57,10 @@ impl Kind {
 /// Kind k stands at k - 1.
 pub const KINDS: [Kind; 16] = [
     kind("bill", Named::Amount, "its amount in cents"),
-    kind("payment", Named::Amount, "its amount in cents"),
+    kind("payment", Named::Amount, "its amount in cents").with("till"),
     kind("returned", Named::Amount, "the receipt of the payment")
-        .or(&["returned-payment", "returned-check"]),
+        .or(&["returned-payment", "returned-check"])
+        .with("till"),
     kind("fee", Named::Option, "the number of the fee, 1 to 3"),
     kind("deposit-asked", Named::Amount, "its amount in cents"),
     kind("deposit-paid", Named::Amount, "its amount in cents"),
@@ -117,6 +134,19 @@ mod tests {
                 "{told}"
             );
         }
+    }
+
+    #[test]
+    fn an_option_beside_the_number_is_not_the_number_itself() {
+        let with_a_word = KINDS.iter().filter(|kind| kind.beside.is_some());
+        let told: Vec<(&str, Named, &str)> = with_a_word
+            .map(|kind| (kind.word, kind.named, kind.option_word()))
+            .collect();
+        let expected = [("payment", "till"), ("returned", "till")];
+        assert_eq!(
+            told,
+            expected.map(|(word, option)| (word, Named::Amount, option))
+        );
     }
 
     #[test]

@@ -229,6 +229,14 @@ Standing: 67.45 owed, no deposit held, 2 open charges, service on, 1 event refus
             "accepted, 40.00 charged again, 25.00 returned check fee added"
         );
         assert_eq!(told[2], "accepted, receipt 2");
+        let told =
+            answers("0 payment 4000; 0 payment 50 till=3; 1 returned 1 till=3; 2 payment 7 till=3");
+        assert_eq!(told[1], "accepted, receipt 1");
+        assert_eq!(
+            told[2],
+            "accepted, 0.50 charged again, 25.00 returned check fee added"
+        );
+        assert_eq!(told[3], "accepted, receipt 2");
         let back = "0 bill 6000; 20 notice; 22 call; 25 cut; 26 payment 7500; 26 reconnection 1";
         let told = answers(back);
         assert_eq!(told[5], "accepted, 75.00 reconnection fee added");
@@ -303,6 +311,9 @@ day  date        event           owed  answer
 ";
         assert_eq!(told("22 bill 1000"), expected);
         assert!(told("22 payment 100").ends_with("  74.00  would be accepted, receipt 1\n"));
+        assert!(told("22 payment 100 till=9").contains(
+            "payment of 1.00 at till 9  75.00  would be refused 3: the amount or the till is out of its range;"
+        ));
         let refused = told("24 cut");
         assert!(refused.contains("disconnection  75.00  would be refused 12: no live"));
         assert!(refused.ends_with("the last one is of day 20 (2000-01-21)\n"));

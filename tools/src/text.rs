@@ -4,12 +4,14 @@
 //! account # a family in arrears
 //!   100 bill 10000
 //!   131 payment 4000
+//!   131 payment 2500 till=3
 //!   131 cut
 //! ```
 //!
 //! A line is the day, the event's word, and the number that the event names: an amount, a receipt, days, parts. The day may
-//! be a date, 2000-04-10, and an event may have another of its names (`kinds`). What follows `#` is for the reader. A field
-//! that the event does not name is written `option=N` or `amount=N` where it is not 0, so that every book has a text.
+//! be a date, 2000-04-10, and an event may have another of its names (`kinds`). What follows `#` is for the reader. The till
+//! of a payment, or of a returned one, stands behind its number where it is not till 0. A field that the event does not name
+//! is written `option=N` or `amount=N` where it is not 0, so that every book has a text.
 use crate::dates;
 use crate::event::{AccountList, Event};
 use crate::kinds::{self, Kind, Named};
@@ -113,6 +115,7 @@ fn read_event(first: &str, rest: &[&str]) -> Result<Event, String> {
 /// The number of the field that the kind names comes first, then the other fields by name.
 fn read_fields(kind: &Kind, fields: &[&str], event: &mut Event) -> Result<(), String> {
     let (mut option, mut amount) = (None, None);
+    let own = kind.option_word();
     let mut others = fields;
     if kind.named != Named::Nothing {
         let Some((first, rest)) = fields.split_first().filter(|(f, _)| !f.contains('=')) else {
@@ -126,9 +129,10 @@ fn read_fields(kind: &Kind, fields: &[&str], event: &mut Event) -> Result<(), St
     }
     for field in others {
         let (name, digits) = field.split_once('=').unwrap_or(("", field));
-        let (place, largest) = match name {
-            "option" => (&mut option, u8::MAX.into()),
-            "amount" => (&mut amount, u64::MAX),
+        let (place, name, largest) = match name {
+            "amount" => (&mut amount, name, u64::MAX),
+            // A text from before there were tills names a till by its field.
+            _ if name == own || name == "option" => (&mut option, own, u8::MAX.into()),
             _ => return Err(unexpected(kind, field)),
         };
         if place.is_some() {
@@ -146,8 +150,12 @@ fn unexpected(kind: &Kind, field: &str) -> String {
         Named::Nothing => "no number",
         _ => "one number",
     };
+    let written = match kind.beside {
+        Some(word) => format!("its {word} is written {word}=N"),
+        None => "a field that it does not name is written option=N or amount=N".to_string(),
+    };
     format!(
-        "`{}` takes {takes}, and `{}` is left over; a field that it does not name is written option=N or amount=N",
+        "`{}` takes {takes}, and `{}` is left over; {written}",
         kind.word,
         shown(field)
     )
@@ -198,7 +206,7 @@ fn write_event(event: &Event) -> Result<String, String> {
         Named::Nothing => {}
     }
     if kind.named != Named::Option && event.option != 0 {
-        line.push_str(&format!(" option={}", event.option));
+        line.push_str(&format!(" {}={}", kind.option_word(), event.option));
     }
     if kind.named != Named::Amount && event.amount != 0 {
         line.push_str(&format!(" amount={}", event.amount));
@@ -242,6 +250,36 @@ mod tests {
         ]];
         let text = "account # 0\n  100 bill 10000\n  131 cut\n  140 arrangement 3\n  141 call option=2 amount=7\n";
         assert_eq!(write(&list).unwrap(), text);
+    }
+
+    #[test]
+    fn a_till_is_written_where_it_is_not_the_first() {
+        let list = [vec![
+            Event::of(2, 131, 4_000),
+            Event::new(2, 3, 131, 4_000),
+            Event::new(3, 3, 140, 2),
+            Event::of(3, 140, 2),
+            Event::new(2, 255, 141, 7),
+            Event::new(1, 3, 141, 7),
+        ]];
+        let text = "account # 0\n  131 payment 4000\n  131 payment 4000 till=3\n  140 returned 2 till=3\n  \
+            140 returned 2\n  141 payment 7 till=255\n  141 bill 7 option=3\n";
+        assert_eq!(write(&list).unwrap(), text);
+        assert_eq!(read(text).unwrap(), list);
+    }
+
+    #[test]
+    fn a_till_may_have_the_name_of_its_field() {
+        for fields in ["till=3", "option=3", "till=3 # x"] {
+            let line = format!("131 payment 4000 {fields}");
+            assert_eq!(event(&line), Ok(Event::new(2, 3, 131, 4_000)), "{line}");
+            let line = format!("140 returned check 2 {fields}");
+            assert_eq!(event(&line), Ok(Event::new(3, 3, 140, 2)), "{line}");
+        }
+        for fields in ["till=0", "option=0", ""] {
+            let line = format!("131 payment 4000 {fields}");
+            assert_eq!(event(&line), Ok(Event::of(2, 131, 4_000)), "{line}");
+        }
     }
 
     #[test]
@@ -354,6 +392,34 @@ mod tests {
             "`call` has its option twice"
         );
         assert!(mistake("account\n5 call option=", 2).contains("the option as a whole number"));
+    }
+
+    #[test]
+    fn a_till_left_over_wrong_or_given_twice_is_said() {
+        let told = |line: &str| event(line).unwrap_err();
+        for fields in ["till=1 till=1", "till=1 option=1", "option=0 till=0"] {
+            let line = format!("5 payment 7 {fields}");
+            assert_eq!(told(&line), "`payment` has its till twice", "{line}");
+        }
+        assert_eq!(
+            told("5 payment 7 3"),
+            "`payment` takes one number, and `3` is left over; its till is written till=N"
+        );
+        assert_eq!(
+            told("5 returned 7 at=3"),
+            "`returned` takes one number, and `at=3` is left over; its till is written till=N"
+        );
+        assert_eq!(
+            told("5 bill 7 till=3"),
+            "`bill` takes one number, and `till=3` is left over; a field that it does not name is written option=N or amount=N"
+        );
+        assert_eq!(
+            told("5 payment till=3"),
+            "`payment` needs its amount in cents"
+        );
+        assert!(told("5 payment 7 till=").contains("the till as a whole number, found ``"));
+        assert!(told("5 payment 7 till=drop").contains("the till as a whole number, found `drop`"));
+        assert!(told("5 payment 7 till=256").contains("a book holds 255 there at most"));
     }
 
     #[test]

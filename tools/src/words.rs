@@ -9,7 +9,7 @@ const MEANINGS: [&str; 23] = [
     "a field of the event is out of its range, or set where it should be 0",
     "the account is closed; only payments, returned payments and payouts go in",
     "service does not allow it: on for a notice, call or disconnection, off for a reconnection",
-    "there is no such payment that can be returned",
+    "the till has no payment of this receipt that can be returned",
     "the sum does not fit: a payout over the credit, or a deposit that is over, not higher, or not full",
     "the deposit is not earned yet",
     "nothing is in arrears, or a payment arrangement is in force",
@@ -56,6 +56,8 @@ pub fn meaning(number: u8) -> &'static str {
 /// Why an event of a kind is refused: the meaning of the number, or the part of it that concerns the kind.
 pub fn reason(number: u8, kind: u8) -> &'static str {
     match (number, kind) {
+        (3, 2) => "the amount or the till is out of its range; the tills are 0 to 4",
+        (3, 3) => "the receipt or the till is out of its range; the tills are 0 to 4",
         (5, 15) => "service is not off",
         (5, _) => "service is not on",
         (7, 5) => "the deposit asked is not over what is held",
@@ -100,8 +102,8 @@ pub fn event(event: &Event) -> String {
     let (number, option) = (event.amount, event.option);
     let words = match event.kind {
         1 => format!("bill of {amount}"),
-        2 => format!("payment of {amount}"),
-        3 => format!("returned payment, receipt {number}"),
+        2 => format!("payment of {amount}{}", till("at", option)),
+        3 => format!("returned payment, receipt {number}{}", till("of", option)),
         4 => format!("fee, {}", fee(option)),
         5 => format!("deposit of {amount} asked"),
         6 => format!("deposit of {amount} paid"),
@@ -118,6 +120,14 @@ pub fn event(event: &Event) -> String {
         kind => format!("unknown event {kind}"),
     };
     words + &odd_fields(event)
+}
+
+/// A till with a word before it. Till 0 is not named: an office with one till has no need of its number.
+fn till(before: &str, option: u8) -> String {
+    match option {
+        0 => String::new(),
+        _ => format!(" {before} till {option}"),
+    }
 }
 
 fn fee(option: u8) -> String {
@@ -139,9 +149,11 @@ fn hours(option: u8) -> String {
 
 /// Fields that the kind does not name are worth a word only where they are set, which refuses the event.
 fn odd_fields(event: &Event) -> String {
-    let named = kinds::of_number(event.kind).map_or(Named::Nothing, |kind| kind.named);
+    let kind = kinds::of_number(event.kind);
+    let named = kind.map_or(Named::Nothing, |kind| kind.named);
+    let takes_option = named == Named::Option || kind.is_some_and(|kind| kind.beside.is_some());
     let mut words = String::new();
-    if named != Named::Option && event.option != 0 {
+    if !takes_option && event.option != 0 {
         words += &format!(", option {}", event.option);
     }
     if named != Named::Amount && event.amount != 0 {
@@ -165,7 +177,7 @@ mod tests {
     #[test]
     fn every_number_of_the_table_has_its_own_meaning() {
         // The first words of each, in the order of the numbers.
-        let beginnings = "the day is after; the day is before; a field; the account; service; there is no such; the sum; \
+        let beginnings = "the day is after; the day is before; a field; the account; service; the till; the sum; \
             the deposit; nothing; the arrears; a final; no live; no call; a payment; a medical; there are; less; 64 charges; \
             charges or; the book's; a record; the memory; the class";
         for (beginning, number) in beginnings.split("; ").zip(1..=23) {
@@ -185,6 +197,9 @@ mod tests {
         for (kind, word) in (5..=8).zip(words) {
             assert!(reason(7, kind).contains(word), "{word}");
         }
+        assert!(reason(3, 2).starts_with("the amount or the till is out of"));
+        assert!(reason(3, 3).starts_with("the receipt or the till is out of"));
+        assert_eq!(reason(3, 1), meaning(3));
         assert_eq!(reason(12, 14), meaning(12));
     }
 
@@ -214,5 +229,19 @@ mod tests {
         assert_eq!(event(&call), "call, option 2, amount 9");
         let bill = Event { kind: 1, ..call };
         assert_eq!(event(&bill), "bill of 0.09, option 2");
+    }
+
+    #[test]
+    fn a_till_is_told_where_it_is_not_the_first() {
+        for (till, at, of) in [
+            (0, "", ""),
+            (3, " at till 3", " of till 3"),
+            (9, " at till 9", " of till 9"),
+        ] {
+            let paid = Event::new(2, till, 131, 4_000);
+            assert_eq!(event(&paid), format!("payment of 40.00{at}"));
+            let returned = Event::new(3, till, 140, 2);
+            assert_eq!(event(&returned), format!("returned payment, receipt 2{of}"));
+        }
     }
 }

@@ -84,6 +84,33 @@ fn a_bill_is_paid_in_part_and_a_cut_refused() {
 }
 
 #[test]
+fn each_till_counts_its_own_receipts() {
+    let mut account = Account::fresh();
+    for (till, receipt) in [(0, 1), (3, 1), (0, 2), (4, 1), (3, 2), (3, 3)] {
+        let answer = account.post(Event::new(2, till, 5, 100));
+        assert_eq!(answer, Answer::Accepted(receipt), "till {till}");
+    }
+    let before = *account.words();
+    for (till, receipt) in [(0, 3), (1, 1), (3, 4), (4, 2)] {
+        let returned = Event::new(3, till, 6, receipt);
+        assert_eq!(account.post(returned), Answer::Refused(6), "till {till}");
+    }
+    for till in [5, 255] {
+        for kind in [2, 3] {
+            let event = Event::new(kind, till, 6, 1);
+            assert_eq!(account.post(event), Answer::Refused(3), "{event:?}");
+        }
+    }
+    assert_eq!(*account.words(), before);
+    let returned = Event::new(3, 3, 6, 2);
+    assert_eq!(account.post(returned), Answer::Accepted(0));
+    assert_eq!(account.post(returned), Answer::Refused(6));
+    // The same receipt of another till.
+    assert_eq!(account.post(Event::of(3, 6, 2)), Answer::Accepted(0));
+    assert_eq!(account.owed(), 2 * 2_500 - 4 * 100);
+}
+
+#[test]
 fn a_deposit_is_asked_and_held() {
     let account = after(&[Event::of(5, 3, 20_000), Event::of(6, 4, 15_000)]);
     assert_eq!((account.held(), account.required()), (15_000, 20_000));
@@ -252,10 +279,12 @@ fn the_memory_around_an_account_stays_as_it_was() {
         account: Account::fresh(),
         behind: [CANARY; 16],
     };
-    // All places for open items are taken, and all for payments that may be returned.
+    // All places for open items are taken, and all for payments that may be returned, of every till.
     for day in 0..70 {
         memory.account.post(Event::of(1, day, 6_000));
-        memory.account.post(Event::of(2, day, 1));
+        for till in 0..5 {
+            memory.account.post(Event::new(2, till, day, 1));
+        }
     }
     let memory = black_box(memory);
     assert_eq!(memory.account.open_count(), 64);

@@ -43,13 +43,18 @@ fn each_command_has_a_help_of_its_own() {
     // The help names the columns in words of its own.
     assert!(help.contains(&format!("\n  {}\n", tools::csv::COLUMNS)));
     assert!(help.contains("sums are in cents"));
+    // Where the text of an event is told, so is its till.
+    for name in ["why", "pack"] {
+        let help = printed(run(&format!("{name} --help"), b""));
+        assert!(help.contains("till=3"), "{help}");
+    }
 }
 
 #[test]
 fn the_version_is_the_library_s() {
-    assert_eq!(core::version(), 10_100);
+    assert_eq!(core::version(), 10_200);
     for words in ["--version", "-V"] {
-        assert_eq!(printed(run(words, b"")), "hollupaq 1.1.0\n");
+        assert_eq!(printed(run(words, b"")), "hollupaq 1.2.0\n");
     }
 }
 

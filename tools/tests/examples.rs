@@ -27,12 +27,13 @@ fn names() -> Vec<String> {
 }
 
 #[test]
-fn there_are_four() {
+fn there_are_five() {
     let expected = [
         "deposit-way",
         "family-in-arrears",
         "sample",
         "shop-with-returned-checks",
+        "three-tills",
     ];
     assert_eq!(names(), expected);
 }

@@ -24,6 +24,12 @@ fn returned(day: u32, receipt: u64) -> Event {
     Event::of(3, day, receipt)
 }
 
+/// A payment or a returned one at a till.
+fn at(till: u8, event: Event) -> Event {
+    let option = till;
+    Event { option, ..event }
+}
+
 /// A deposit that becomes full on a day.
 fn deposit(day: u32) -> [Event; 2] {
     [Event::of(5, day, 10_000), Event::of(6, day, 10_000)]
@@ -184,7 +190,36 @@ fn so_many_of_the_newest_payments_can_be_returned() {
             let is_newest = receipt <= count && count - receipt < RETURNABLE;
             assert_eq!(refused_by(6, &events), !is_newest, "{receipt} of {count}");
             let told = hint(6, &returned(0, receipt), &before(&payments)).unwrap();
-            assert_eq!(told.contains("receipts up to"), receipt > count);
+            assert_eq!(told.contains("till 0 has given "), receipt > count);
+        }
+    }
+}
+
+#[test]
+fn a_till_s_newest_are_not_those_of_another() {
+    // One till with so many payments, another with many more before, between and after them.
+    let busy = vec![at(1, payment(0, 100)); 2 * RETURNABLE as usize];
+    for count in [0, 1, RETURNABLE, RETURNABLE + 1] {
+        let mut payments = busy.clone();
+        for _ in 0..count {
+            payments.extend([at(3, payment(0, 100)), at(1, payment(0, 100))]);
+        }
+        payments.extend(busy.clone());
+        let given = [(1, count + 4 * RETURNABLE), (3, count), (4, 0)];
+        for (till, given) in given {
+            for receipt in 1..=given + 2 {
+                let event = at(till, returned(0, receipt));
+                let events = [&payments[..], &[event]].concat();
+                let is_newest = receipt <= given && given - receipt < RETURNABLE;
+                assert_eq!(refused_by(6, &events), !is_newest, "{receipt} of {till}");
+                let told = hint(6, &event, &before(&payments)).unwrap();
+                let expected = match receipt > given {
+                    true if given == 0 => format!("till {till} has given no receipt"),
+                    true => format!("till {till} has given receipts up to {given}"),
+                    false => format!("only the newest {RETURNABLE} of {given} payments at till {till} can be returned"),
+                };
+                assert_eq!(told, expected);
+            }
         }
     }
 }
@@ -195,6 +230,33 @@ fn a_payment_is_returned_once() {
     assert!(refused_by(6, &events));
     let told = hint(6, &events[2], &before(&events[..2]));
     assert_eq!(told, Some(format!("it was returned on {}", day(7))));
+}
+
+#[test]
+fn one_number_is_a_payment_at_each_till() {
+    let paid: Vec<Event> = (0..5).map(|till| at(till, payment(0, 100))).collect();
+    for back in 0..5 {
+        let back = at(back, returned(7, 1));
+        let events = [&paid[..], &[back]].concat();
+        for till in 0..5 {
+            let again = at(till, returned(8, 1));
+            let refused = refused_by(6, &[&events[..], &[again]].concat());
+            assert_eq!(refused, till == back.option, "{back:?} {till}");
+        }
+        let told = hint(6, &back, &before(&events));
+        assert_eq!(told, Some(format!("it was returned on {}", day(7))));
+    }
+}
+
+#[test]
+fn a_returned_payment_keeps_its_place_among_the_newest() {
+    let payments = vec![at(2, payment(0, 100)); RETURNABLE as usize + 1];
+    let events = [&payments[..], &[at(2, returned(7, 2))]].concat();
+    for (receipt, refused) in [(1, true), (2, true), (3, false)] {
+        let event = at(2, returned(8, receipt));
+        let events = [&events[..], &[event]].concat();
+        assert_eq!(refused_by(6, &events), refused, "{receipt}");
+    }
 }
 
 /// What bars a disconnection by a number, and is told for it, ends as the hint says: on its last day, and not on the next.

@@ -42,6 +42,23 @@ fn dates_and_both_words_make_the_same_book() {
 }
 
 #[test]
+fn a_till_is_told_by_its_name() {
+    let text =
+        "account # 0\n  131 payment 4000\n  131 payment 4000 till=3\n  140 returned 2 till=4\n  \
+        141 payment 7 till=255\n  141 bill 7 option=3\n";
+    let book = pack(text.as_bytes());
+    assert_eq!(printed(run("unpack -", &book)), text);
+    // As texts from before have it.
+    let before = text.replace("till=", "option=");
+    assert_eq!(pack(before.as_bytes()), book);
+    let told = complaint(&run("pack -", b"account\n5 payment 7 till=1 option=1\n"), 1);
+    assert_eq!(
+        told,
+        "hollupaq pack: line 2: `payment` has its till twice\n"
+    );
+}
+
+#[test]
 fn a_wrong_text_or_book_is_told_in_words() {
     let told = complaint(&run("pack -", b"account\n5 bil 7\n"), 1);
     assert!(told.starts_with("hollupaq pack: line 2: `bil` is no event; the events are bill, "));

@@ -127,6 +127,8 @@ const WRONG: &str = "\
 --try 131 bil 5 => `bil` is no event; the events are bill, payment, returned, 
 --try 131 payment => `payment` needs its amount in cents
 --try 131 payment 40.00 => expected its amount in cents as a whole number, found `40.00`
+--try 131 payment 4000 3 => `payment` takes one number, and `3` is left over; its till is written till=N
+--try 131 payment 4000 till=box => expected the till as a whole number, found `box`
 --try cut => expected the day as a date or a whole number, found `cut`
 --try # => expected a day and an event, found nothing
 --try 131 cut\t\u{7} => the control byte \\u{7} has no place in a text";
@@ -162,6 +164,65 @@ fn an_event_is_tried_with_nothing_changed() {
     assert!(told.ends_with("  121.58  would be accepted, 0.83 late charge added\n"));
 }
 
+/// Two tills, each with receipts from 1 on.
+const TILLS: &[u8] = b"account
+  5 payment 4000
+  5 payment 300 till=1
+  6 payment 5000
+  7 returned 1 till=1
+  7 returned 2 till=1
+  7 returned 1 till=3
+  7 returned 1
+  7 payment 600 till=1
+  7 payment 700 till=5
+";
+
+#[test]
+fn each_till_has_receipts_of_its_own() {
+    let expected = "\
+Account 0 of 1. Sums are in dollars.
+
+day  date        event                                    owed  answer
+  5  2000-01-06  payment of 40.00                       -40.00  accepted, receipt 1
+  5  2000-01-06  payment of 3.00 at till 1              -43.00  accepted, receipt 1
+  6  2000-01-07  payment of 50.00                       -93.00  accepted, receipt 2
+  7  2000-01-08  returned payment, receipt 1 of till 1  -65.00  accepted, 3.00 charged again, 25.00 returned check fee added
+  7  2000-01-08  returned payment, receipt 2 of till 1  -65.00  refused 6: the till has no payment of this receipt that can be returned
+                                                                  till 1 has given receipts up to 1
+  7  2000-01-08  returned payment, receipt 1 of till 3  -65.00  refused 6: the till has no payment of this receipt that can be returned
+                                                                  till 3 has given no receipt
+  7  2000-01-08  returned payment, receipt 1              0.00  accepted, 40.00 charged again, 25.00 returned check fee added
+  7  2000-01-08  payment of 6.00 at till 1               -6.00  accepted, receipt 2
+  7  2000-01-08  payment of 7.00 at till 5               -6.00  refused 3: the amount or the till is out of its range; the tills are 0 to 4
+
+Standing: 6.00 of credit, no deposit held, no open charges, service on, 3 events refused.
+";
+    assert_eq!(printed(run("why -", &pack(TILLS))), expected);
+}
+
+#[test]
+fn an_event_is_tried_at_its_till() {
+    let heading = "Account 0 of 1, tried with nothing changed. Sums are in dollars.\n\n";
+    let told = why(&["--try", "131 payment 4000 till=3"]);
+    let expected = "\
+day  date        event                        owed  answer
+131  2000-05-11  payment of 40.00 at till 3  70.75  would be accepted, receipt 1
+";
+    assert_eq!(told, format!("{heading}{expected}"));
+    let told = why(&["--try", "131 returned 1 till=3"]);
+    assert!(told.contains("  returned payment, receipt 1 of till 3  110.75  would be refused 6: "));
+    assert!(told.ends_with(" till 3 has given no receipt\n"), "{told}");
+    let told = why(&["--try", "131 returned 2"]);
+    assert!(
+        told.ends_with(" till 0 has given receipts up to 1\n"),
+        "{told}"
+    );
+    let told = why(&["--try", "131 returned 1"]);
+    assert!(
+        told.ends_with(" would be accepted, 40.00 charged again, 25.00 returned check fee added\n")
+    );
+}
+
 #[test]
 fn a_spreadsheet_gets_the_history() {
     let expected = "\
@@ -172,4 +233,16 @@ day,date,event,option,amount,answer,receipt,added,owed,reason
 131,2000-05-11,cut,0,0,12,,0,11075,\"no live final notice, or it is too new or too old\"
 ";
     assert_eq!(why(&["--csv"]), expected);
+}
+
+#[test]
+fn a_spreadsheet_gets_the_tills() {
+    let told = printed(run("why - --csv", &pack(TILLS)));
+    let expected = "\
+5,2000-01-06,payment,0,4000,0,1,0,-4000,
+5,2000-01-06,payment,1,300,0,1,0,-4300,
+6,2000-01-07,payment,0,5000,0,2,0,-9300,
+7,2000-01-08,returned,1,1,0,,2500,-6500,
+";
+    assert!(told.contains(expected), "{told}");
 }

@@ -35,6 +35,11 @@ fn a_kind_names_the_field_that_the_core_takes() {
         };
         assert!(takes(at, option, amount), "{}", kind.word);
         let other = match kind.named {
+            // An option that has a word is taken too.
+            Named::Amount if kind.beside.is_some() => {
+                assert!(takes(at, 1, amount), "{}", kind.word);
+                vec![(u64::from(u8::MAX), amount)]
+            }
             Named::Amount => vec![(1, amount)],
             Named::Option => vec![(option, 1)],
             Named::Nothing => vec![(1, 0), (0, 1)],
@@ -63,6 +68,23 @@ fn a_range_that_is_told_is_the_core_s() {
     }
     // Fees, certificates, approvals, arrangements and reconnections.
     assert_eq!(told, 5);
+}
+
+#[test]
+fn the_tills_are_the_core_s() {
+    for (at, kind) in KINDS.iter().enumerate() {
+        if kind.beside != Some("till") {
+            continue;
+        }
+        let told = words::reason(3, at as u8 + 1);
+        let [first, last] = numbers(told)[..] else {
+            panic!("{told}");
+        };
+        for till in 0..=u64::from(u8::MAX) {
+            let is_told = (first..=last).contains(&till);
+            assert_eq!(takes(at, till, 1), is_told, "{} {till}", kind.word);
+        }
+    }
 }
 
 #[test]

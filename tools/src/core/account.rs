@@ -18,7 +18,7 @@ pub struct Accounts {
 /// The answer to one event.
 #[derive(Clone, Copy, Debug, PartialEq, Eq)]
 pub enum Answer {
-    /// With the receipt of a payment, or 0 for any other event.
+    /// With the receipt of a payment, which its till counts, or 0 for any other event.
     Accepted(u64),
     /// With the number of the rule, 1 to 19; or 0 where no account was lent.
     Refused(u8),

@@ -3,10 +3,10 @@
 use crate::event::Event;
 
 /// How many words of 64 bits an account takes. include/hollupaq.h has the same number.
-pub const WORDS: usize = 188;
+pub const WORDS: usize = 240;
 
 /// The number of the layout, with which an account begins.
-pub const LAYOUT: u64 = 1_000_001;
+pub const LAYOUT: u64 = 1_000_002;
 
 /// An answer from here on is an acceptance, and what is above it the receipt of a payment, or what is told for a day. One below
 /// is a refusal.

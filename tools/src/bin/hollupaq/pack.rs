@@ -12,10 +12,12 @@ pub const COMMAND: Command = Command {
     more: "\
 A text has a line `account` for each account, and under it a line for each event:
 its day, as a number or a date, its name, and the number that it speaks of; sums
-are in cents. What follows # is a remark.
+are in cents. The till of a payment, or of a returned one, follows as till=3 where it
+is not till 0. What follows # is a remark.
 
   account # the Millers
     100        bill 10000
+    131        payment 4000 till=3
     2000-05-11 disconnection
 
 Without BOOK it goes to standard output. A BOOK that is there is replaced once the

@@ -35,12 +35,13 @@ pub const COMMAND: Command = Command {
 N is the number of the account, the first (0) where none is named. Sums are in
 dollars. What an event added to what is owed stands in its answer, and under a
 refusal what to look for. An event for --try is written as in the text of a book,
-its sum in cents (see hollupaq pack --help).
+its sum in cents, a till as till=3 (see hollupaq pack --help).
 
 The columns of --csv are
   day,date,event,option,amount,answer,receipt,added,owed,reason
-where answer is 0 for accepted and else the number that refuses the event, and
-added is what the event changed of what is owed beyond its own amount.",
+where option is the till of a payment or of a returned one, answer is 0 for accepted
+and else the number that refuses the event, and added is what the event changed of
+what is owed beyond its own amount.",
     run,
 };
 
