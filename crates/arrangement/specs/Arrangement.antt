@@ -24,7 +24,7 @@ arrangement_words a = a.day ∷ a.parts ∷ a.debt ∷ a.paid ∷ a.returned ∷
 abbrev pub no_arrangement : Arrangement
 no_arrangement = record { day = 0; parts = 0; debt = 0; paid = 0; returned = 0 }
 
--- owing are the arrears before e, back the payment of the receipt that a returned payment names
+-- owing are the arrears before e, back the payment that a returned payment names
 abbrev pub arrangement_after : Arrangement → Event → ℕ → ℕ → Arrangement
 arrangement_after a e owing back =
     record {

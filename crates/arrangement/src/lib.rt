@@ -35,8 +35,8 @@ pub struct Arrangement {
 }
 
 impl Arrangement {
-    // What it becomes when the event is accepted. `arrears` are those before the event, on its day; `payment` is that of
-    // the receipt which a returned payment names.
+    // What it becomes when the event is accepted. `arrears` are those before the event, on its day; `payment` is the one
+    // that a returned payment names.
     pub fn after(self, posted: InRange, arrears: u64, payment: u64) -> Arrangement
         requires arrangement_fit { ArrangementFit self }
         requires payment_bound { cond (is returned_payment posted.event) payment 0 ≤ limit }
