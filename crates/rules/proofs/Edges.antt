@@ -246,6 +246,8 @@ tills =
     (payment 0 9 ∷ payment_at 1 0 9 ∷ returned 0 1 ∷ returned_at 1 0 1 ∷ returned_at 1 0 1 ∷ []) 6
     ∷ shows "the amount is that of the till" owed (payment 0 100 ∷ payment_at 1 0 200 ∷ payout 0 300 ∷ returned_at 1 0 1 ∷ []) 2700
     ∷ shows "the amount is that of the other till" owed (payment 0 100 ∷ payment_at 1 0 200 ∷ payout 0 300 ∷ returned 0 1 ∷ []) 2600
+    ∷ shows "the amount of a till's receipt, the oldest" owed (payment 0 100 ∷ payment_at 1 0 200 ∷ payment_at 1 0 400 ∷ payout 0 700 ∷ returned_at 1 0 1 ∷ []) 2700
+    ∷ shows "the amount of a till's receipt, the newest" owed (payment 0 100 ∷ payment_at 1 0 200 ∷ payment_at 1 0 400 ∷ payout 0 700 ∷ returned_at 1 0 2 ∷ []) 2900
     ∷ shows "payments of every till are credits" credit (payment 0 1 ∷ payment_at 1 0 2 ∷ payment_at 2 0 4 ∷ payment_at 3 0 8 ∷ payment_at 4 0 16 ∷ []) 31
     ∷ ends "payments of two tills keep an arrangement" (bill 0 6000 ∷ arrangement 20 2 ∷ payment_at 1 20 1000 ∷ payment_at 2 50 2000 ∷ arrangement 50 2 ∷ []) 9
     ∷ ends "payments of two tills, a cent short" (bill 0 6000 ∷ arrangement 20 2 ∷ payment_at 1 20 1000 ∷ payment_at 2 50 1999 ∷ arrangement 50 2 ∷ []) 0
