@@ -4,29 +4,27 @@ use mathlib.Core.Path.{◌≡◌, ap, ◌∙◌}
 use mathlib.Core.Bool.{true}
 use mathlib.Core.List.{List}
 use native.Mathlib.Omega.{arith}
-use lib.ListN.{length, set}
+use lib.ListN.{length, get_or, set}
 use lib.Seq.{get_or-set_same}
 use Rattle.std.proofs.Math.Seq.{take-set-lt}
 use Rattle.std.proofs.lemmas.List.{take-set-le, drop-set-lt, drop-set-add}
 use borrow.Author.Tests.{eqb-true}
 use Rattle.rules.specs.declared.Event.{Event}
-use Rattle.rules.specs.Kinds.{payment, returned_payment}
+use Rattle.rules.specs.Kinds.{payment}
 use Rattle.rules.specs.History.{is}
 use Rattle.rules.specs.Limits.{last_till}
-use Rattle.rules.specs.Range.{WellFormed}
+use Rattle.rules.specs.Range.{unknown, fields, WellFormed}
 use Rattle.rules.proofs.Ranged.{ranged}
 use Rattle.receipts.specs.Receipts.{Receipts, tills, receipts_on, receipts_after, count_by, place}
 
-pub payment_till : (e : Event) → WellFormed e → is payment e ≡ true → e.option ≤ last_till
-payment_till e w q = (ranged payment e w.fields_fit (eqb-true e.kind payment q)).option_high
-
-pub returned_till : (e : Event) → WellFormed e → is returned_payment e ≡ true → e.option ≤ last_till
-returned_till e w q = (ranged returned_payment e w.fields_fit (eqb-true e.kind returned_payment q)).option_high
+-- of any kind: of these two the last option is the last till
+pub last_option : (k : ℕ) (e : Event) → WellFormed e → is k e ≡ true → e.option ≤ (get_or fields k unknown).option_to
+last_option k e w q = (ranged k e w.fields_fit (eqb-true e.kind k q)).option_high
 
 -- the count of a payment's till, one more
 pub next_count : (s : Receipts) (e : Event) → length s.counts ≡ tills → WellFormed e → is payment e ≡ true
     → count_by (receipts_after s e) e.option ≡ count_by s e.option + 1
-next_count s e l w q = rw q (get_or-set_same s.counts e.option (count_by s e.option + 1) 0 (omega (arith, l, payment_till e w q)))
+next_count s e l w q = rw q (get_or-set_same s.counts e.option (count_by s e.option + 1) 0 (omega (arith, l, last_option payment e w q)))
 
 -- a payment's two words: the count of its till, and the place of its receipt
 pub paid_in : (w : List ℕ) (e : Event) (n : ℕ) → n ≡ count_by (receipts_on w) e.option + 1 → e.option ≤ last_till → is payment e ≡ true
