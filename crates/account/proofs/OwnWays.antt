@@ -25,10 +25,10 @@ use Rattle.rules.proofs.Room.{Room, room}
 use Rattle.table.specs.ByKind.{from_row5, item_rows, credit_rows}
 use Rattle.table.proofs.ByKind.{of_item}
 use Rattle.collection.specs.Collection.{collection_size, collection_on, service_by, lapsed_by}
-use Rattle.collection.proofs.Words.{collection_other}
+use Rattle.collection.proofs.Others.{collection_other}
 use Rattle.deposit.specs.Deposit.{concerns}
-use Rattle.deposit.proofs.Words.{deposit_other}
-use Rattle.medical.proofs.Words.{untouched}
+use Rattle.deposit.proofs.Others.{deposit_other}
+use Rattle.medical.proofs.Others.{untouched}
 use Rattle.arrangement.specs.declared.Arrangement.{Arrangement}
 use Rattle.arrangement.specs.Arrangement.{arrangement_size, arrangement_on, arrangement_after}
 use Rattle.receipts.specs.Receipts.{Receipts, receipts_size, receipts_on, count_by, receipts_after}

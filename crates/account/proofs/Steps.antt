@@ -22,7 +22,7 @@ use Rattle.rules.proofs.Room.{Room, room}
 use Rattle.table.specs.Seen.{seen_of}
 use Rattle.table.proofs.Seen.{charge_seen, credit_seen, debt_seen, payment_seen}
 use Rattle.collection.specs.Collection.{collection_size, collection_on, collection_after, watched}
-use Rattle.collection.proofs.Words.{collection_watched}
+use Rattle.collection.proofs.Others.{collection_watched}
 use Rattle.deposit.specs.Deposit.{deposit_size, deposit_on, deposit_after}
 use Rattle.medical.specs.Medical.{medical_size, medical_on, medical_after}
 use Rattle.arrangement.specs.declared.Arrangement.{Arrangement}

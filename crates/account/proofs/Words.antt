@@ -8,11 +8,11 @@ use Rattle.span.specs.Span.{joined}
 use Rattle.span.proofs.Law.{whole}
 use Rattle.span.proofs.Parts.{part, part_length, joined_cut, joined_length, Sized, cut_joined}
 use Rattle.rules.specs.Limits.{known_receipts}
+use Rattle.collection.specs.Collection.{collection_size}
+use Rattle.deposit.specs.Deposit.{deposit_size}
+use Rattle.medical.specs.Medical.{medical_size}
+use Rattle.arrangement.specs.Arrangement.{arrangement_size}
 use Rattle.receipts.specs.Receipts.{tills}
-use Rattle.collection.proofs.Words.{collection_whole}
-use Rattle.deposit.proofs.Words.{deposit_whole}
-use Rattle.medical.proofs.Words.{medical_whole}
-use Rattle.arrangement.proofs.Words.{arrangement_whole}
 use Rattle.receipts.proofs.Words.{receipts_whole, receipts_back}
 use Rattle.ledger.specs.Ring.{ring_size}
 use Rattle.ledger.proofs.Words.{ledger_whole}
@@ -23,10 +23,10 @@ pub account_whole : (m : List ℕ) → length m ≡ account_size → words_of (s
 account_whole m l =
     let z = sym (whole 1 (part sizes 0 m) (part_length sizes 0 m (omega arith) l)) in
     let a = sym (whole 1 (part sizes 1 m) (part_length sizes 1 m (omega arith) l)) in
-    let b = collection_whole (part sizes 2 m) (part_length sizes 2 m (omega arith) l) in
-    let c = deposit_whole (part sizes 3 m) (part_length sizes 3 m (omega arith) l) in
-    let d = medical_whole (part sizes 4 m) (part_length sizes 4 m (omega arith) l) in
-    let e = arrangement_whole (part sizes 5 m) (part_length sizes 5 m (omega arith) l) in
+    let b = sym (whole collection_size (part sizes 2 m) (part_length sizes 2 m (omega arith) l)) in
+    let c = sym (whole deposit_size (part sizes 3 m) (part_length sizes 3 m (omega arith) l)) in
+    let d = sym (whole medical_size (part sizes 4 m) (part_length sizes 4 m (omega arith) l)) in
+    let e = sym (whole arrangement_size (part sizes 5 m) (part_length sizes 5 m (omega arith) l)) in
     let f = receipts_whole (part sizes 6 m) (part_length sizes 6 m (omega arith) l) in
     let g = ledger_whole (part sizes 7 m) (part_length sizes 7 m (omega arith) l) in
     (λ i. joined (z i ∷ a i ∷ b i ∷ c i ∷ d i ∷ e i ∷ f i ∷ g i ∷ [])) ∙ joined_cut sizes 0 m (sym l)

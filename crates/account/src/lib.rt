@@ -71,7 +71,7 @@ pub fn judge(m: &mut [u64], e: Event) -> Answer
 {
     if e.is(Kind::Payment) {
         ways::payment(m, e)
-    } else if e.is(Kind::Bill) | e.is(Kind::Fee) {
+    } else if e.is(Kind::Bill) || e.is(Kind::Fee) {
         ways::item(m, e)
     } else {
         judge_any(m, e)

@@ -133,7 +133,7 @@ fn money_ok(m: &[u64; WORDS]) -> bool
     let a = Arrangement::load(&m[ARRANGEMENT..RECEIPTS]);
     let r = receipts::ok(&m[RECEIPTS..LEDGER]);
     let l = ledger::ok(&m[LEDGER..WORDS]);
-    a.ok() & r & l
+    a.ok() && r && l
 }
 
 fn file_ok(m: &[u64; WORDS]) -> bool

@@ -2,25 +2,19 @@
 #![tactic(auto)]
 
 ghost use Rattle.std.specs.Prelude.{◌≡◌, cond, ◌≤◌, length};
+ghost use Rattle.span.proofs.Law.{whole as all_words};
 ghost use Rattle.rules.specs.Kinds.{returned_payment};
 ghost use Rattle.rules.specs.History.{is};
 ghost use Rattle.rules.specs.Limits.{limit};
-ghost use Rattle.arrangement.specs.Arrangement.{arrangement_size, arrangement_on, arrangement_after, in_force_by, arrangement_ok, ArrangementFit};
+ghost use Rattle.arrangement.specs.Arrangement.{arrangement_size, arrangement_on, arrangement_words, arrangement_after, in_force_by, arrangement_ok, ArrangementFit};
 
 use rules::InRange;
 use rules::kinds::Kind;
 use rules::limits::{FINAL_DAY, LIMIT, MOST_PARTS, PART_DAYS};
 use span::Part;
 
-const DAY: usize = 0;
-
-const PARTS: usize = 1;
-
-const DEBT: usize = 2;
-
+// The word of what was paid, which a payment changes by itself.
 const PAID: usize = 3;
-
-const RETURNED: usize = 4;
 
 // Where there is none, day, parts and debt are 0: these are words of memory, whose layout is fixed, and an arrangement in no parts is in
 // force on no day.
@@ -43,24 +37,23 @@ impl Arrangement {
         ensures { result ≡ arrangement_after self posted.event arrears payment }
     {
         let e = posted.event;
-        let anew = e.is(Kind::Arrangement);
-        let paid = self.paid + if e.is(Kind::Payment) { e.amount } else { 0 };
-        let returned = self.returned
-            + if e.is(Kind::ReturnedPayment) {
-                payment
-            } else {
-                0
-            };
-        Arrangement {
-            day: if anew { u64::from(e.day) } else { self.day },
-            parts: if anew {
-                u64::from(e.option)
-            } else {
-                self.parts
+        match Kind::try_from(e.kind) {
+            Ok(Kind::Arrangement) => Arrangement {
+                day: u64::from(e.day),
+                parts: u64::from(e.option),
+                debt: arrears,
+                paid: 0,
+                returned: 0,
             },
-            debt: if anew { arrears } else { self.debt },
-            paid: if anew { 0 } else { paid },
-            returned: if anew { 0 } else { returned },
+            Ok(Kind::Payment) => Arrangement {
+                paid: self.paid + e.amount,
+                ..self
+            },
+            Ok(Kind::ReturnedPayment) => Arrangement {
+                returned: self.returned + payment,
+                ..self
+            },
+            _ => self,
         }
     }
 
@@ -85,36 +78,38 @@ impl Part for Arrangement {
 
     ghost on = { arrangement_on };
 
+    ghost words = { arrangement_words };
+
     ghost passes = { arrangement_ok };
+
+    ghost whole = { all_words arrangement_size };
 
     const WORDS: usize = 5;
 
+    // The words, one after the other.
     fn load(w: &[u64]) -> Arrangement {
+        let [day, parts, debt, paid, returned] = *w.as_array::<5>().unwrap();
         Arrangement {
-            day: w[DAY],
-            parts: w[PARTS],
-            debt: w[DEBT],
-            paid: w[PAID],
-            returned: w[RETURNED],
+            day,
+            parts,
+            debt,
+            paid,
+            returned,
         }
     }
 
     fn store(self, w: &mut [u64]) {
-        w[DAY] = self.day;
-        w[PARTS] = self.parts;
-        w[DEBT] = self.debt;
-        w[PAID] = self.paid;
-        w[RETURNED] = self.returned;
+        w.copy_from_slice(&[self.day, self.parts, self.debt, self.paid, self.returned]);
     }
 
     // At most six parts, no day where there is none, and sums within the limit.
     fn ok(self) -> bool {
         let n = self.parts;
         n <= u64::from(MOST_PARTS)
-            && (self.day <= FINAL_DAY * n)
-                & (self.debt <= LIMIT)
-                & (self.paid <= LIMIT)
-                & (self.returned <= LIMIT)
+            && self.day <= FINAL_DAY * n
+            && self.debt <= LIMIT
+            && self.paid <= LIMIT
+            && self.returned <= LIMIT
     }
 }
 
@@ -130,7 +125,7 @@ pub fn step(w: &mut [u64], posted: InRange, arrears: u64, payment: u64)
         w[PAID] += e.amount;
         return;
     }
-    if e.is(Kind::ReturnedPayment) | e.is(Kind::Arrangement) {
+    if e.is(Kind::ReturnedPayment) || e.is(Kind::Arrangement) {
         span::change(w, |a: Arrangement| a.after(posted, arrears, payment));
     }
 }

@@ -56,7 +56,7 @@ fn check_history(book: Book, i: usize, n: usize, m: usize) -> Result<(), Refusal
     ensures { result ≡ answered (history_refusal book.entry.bytes.now i n m) tt }
 {
     let s = book.account(i);
-    let enough = (s.count <= n) & (s.count <= m);
+    let enough = s.count <= n && s.count <= m;
     Refusal::TooShort.when(!enough)
 }
 

@@ -1,4 +1,4 @@
 pub mod CallDays
 pub mod NewestNotice
 pub mod Law
-pub mod Words
+pub mod Others

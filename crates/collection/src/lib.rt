@@ -4,25 +4,18 @@
 #![tactic(auto)]
 
 ghost use Rattle.std.specs.Prelude.{◌≡◌, cond, ◌+◌, eqb, length};
+ghost use Rattle.span.proofs.Law.{whole as all_words};
 ghost use Rattle.rules.specs.declared.Service.{Service as ServiceT};
 ghost use Rattle.rules.specs.History.{within};
-ghost use Rattle.collection.specs.Collection.{service_by, served_after, notice_after, live_by, in_days_by, calls_after, recent_by, called_by, collection_after, watched, concerns, lapsed_by, collection_ok, collection_size, collection_on};
+ghost use Rattle.collection.specs.Collection.{service_by, served_after, notice_after, live_by, in_days_by, calls_after, recent_by, called_by, collection_after, watched, concerns, lapsed_by, collection_ok, collection_size, collection_on, collection_words};
 
 use rules::kinds::Kind;
 use rules::limits::{CALL_DAYS, ENOUGH, FINAL_DAY, NOTICE_FROM, NOTICE_TO};
 use rules::{Event, Service};
 use span::Part;
 
-// The words, one after the other.
-const SERVICE: usize = 0;
-
-const NOTICE_DAY: usize = 1;
-
+// The word of the notice's mark, which is asked and changed by itself.
 const NOTICE_LIVE: usize = 2;
-
-const LAST_CALL: usize = 3;
-
-const EARLIER_CALL: usize = 4;
 
 // The word of each service is its number. A word of memory may be any other, so it stays one: `ok` tests it.
 const ON: u64 = Service::On as u64;
@@ -63,7 +56,7 @@ pub struct Collection {
 fn window(day: u64, from: u64, to: u64, t: u64) -> bool
     ensures { result ≡ within (day + from) (day + to) t }
 {
-    (day <= t) & (from..=to).contains(&t.saturating_sub(day))
+    day <= t && (from..=to).contains(&t.saturating_sub(day))
 }
 
 // Whether the day before `next`, if there is one, lies in t − 3 to t − 1.
@@ -71,7 +64,7 @@ fn window(day: u64, from: u64, to: u64, t: u64) -> bool
 fn recent(next: u64, t: u64) -> bool
     ensures { result ≡ recent_by next t }
 {
-    (1 <= next) & window(next, 0, CALLED_FOR, t)
+    1 <= next && window(next, 0, CALLED_FOR, t)
 }
 
 fn service_after(service: u64, e: Event) -> u64
@@ -91,7 +84,7 @@ impl Notice {
         ensures { result ≡ notice_after self e arrears }
     {
         let notice = e.is(Kind::FinalNotice);
-        let live = (notice | (self.live == 1)) & !e.is(Kind::Disconnection) & (ENOUGH <= arrears);
+        let live = (notice || self.live == 1) && !e.is(Kind::Disconnection) && ENOUGH <= arrears;
         Notice {
             day: if notice { u64::from(e.day) } else { self.day },
             live: u64::from(live),
@@ -101,13 +94,13 @@ impl Notice {
     fn is_live(self, t: u64) -> bool
         ensures { result ≡ live_by self t }
     {
-        (self.live == 1) & window(self.day, 0, NOTICE_TO, t)
+        self.live == 1 && window(self.day, 0, NOTICE_TO, t)
     }
 
     fn in_days(self, t: u64) -> bool
         ensures { result ≡ in_days_by self t }
     {
-        (self.live == 1) & window(self.day, NOTICE_FROM, NOTICE_TO, t)
+        self.live == 1 && window(self.day, NOTICE_FROM, NOTICE_TO, t)
     }
 }
 
@@ -115,23 +108,24 @@ impl Calls {
     fn after(self, e: Event) -> Calls
         ensures { result ≡ calls_after self e }
     {
-        let call = e.is(Kind::Call);
         let next = u64::from(e.day) + 1;
-        let earlier = if self.last == next {
-            self.earlier
-        } else {
-            self.last
-        };
+        if !e.is(Kind::Call) {
+            return self;
+        }
         Calls {
-            last: if call { next } else { self.last },
-            earlier: if call { earlier } else { self.earlier },
+            last: next,
+            earlier: if self.last == next {
+                self.earlier
+            } else {
+                self.last
+            },
         }
     }
 
     fn called(self, t: u64) -> bool
         ensures { result ≡ called_by self t }
     {
-        recent(self.last, t) | recent(self.earlier, t)
+        recent(self.last, t) || recent(self.earlier, t)
     }
 }
 
@@ -184,39 +178,37 @@ impl Part for Collection {
 
     ghost on = { collection_on };
 
+    ghost words = { collection_words };
+
     ghost passes = { collection_ok };
+
+    ghost whole = { all_words collection_size };
 
     const WORDS: usize = 5;
 
+    // The words, one after the other.
     fn load(w: &[u64]) -> Collection {
+        let [service, day, live, last, earlier] = *w.as_array::<5>().unwrap();
         Collection {
-            service: w[SERVICE],
-            notice: Notice {
-                day: w[NOTICE_DAY],
-                live: w[NOTICE_LIVE],
-            },
-            calls: Calls {
-                last: w[LAST_CALL],
-                earlier: w[EARLIER_CALL],
-            },
+            service,
+            notice: Notice { day, live },
+            calls: Calls { last, earlier },
         }
     }
 
     fn store(self, w: &mut [u64]) {
-        w[SERVICE] = self.service;
-        w[NOTICE_DAY] = self.notice.day;
-        w[NOTICE_LIVE] = self.notice.live;
-        w[LAST_CALL] = self.calls.last;
-        w[EARLIER_CALL] = self.calls.earlier;
+        let Notice { day, live } = self.notice;
+        let Calls { last, earlier } = self.calls;
+        w.copy_from_slice(&[self.service, day, live, last, earlier]);
     }
 
     // A service that there is, a mark of the notice that is 0 or 1, days in range, and the calls in order.
     fn ok(self) -> bool {
-        (self.service <= CLOSED)
-            & (self.notice.live <= 1)
-            & (self.notice.day <= FINAL_DAY)
-            & (self.calls.last <= FINAL_DAY + 1)
-            & (self.calls.earlier <= self.calls.last)
+        self.service <= CLOSED
+            && self.notice.live <= 1
+            && self.notice.day <= FINAL_DAY
+            && self.calls.last <= FINAL_DAY + 1
+            && self.calls.earlier <= self.calls.last
     }
 }
 
@@ -225,7 +217,7 @@ pub fn watches(w: &[u64], e: Event) -> bool
     requires { length w.now ≡ collection_size }
     ensures { result ≡ watched (collection_on w.now) e }
 {
-    e.is(Kind::FinalNotice) | (w[NOTICE_LIVE] == 1)
+    e.is(Kind::FinalNotice) || w[NOTICE_LIVE] == 1
 }
 
 // Whether there is no notice that an event could make lapse.
@@ -243,7 +235,7 @@ pub fn lapse(w: &mut [u64], arrears: u64)
 {
     let live = w[NOTICE_LIVE];
     if live != 0 {
-        w[NOTICE_LIVE] = u64::from((live == 1) & (ENOUGH <= arrears));
+        w[NOTICE_LIVE] = u64::from(live == 1 && ENOUGH <= arrears);
     }
 }
 

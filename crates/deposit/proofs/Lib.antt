@@ -1,4 +1,4 @@
 pub mod Windows
 pub mod Full
 pub mod Law
-pub mod Words
+pub mod Others

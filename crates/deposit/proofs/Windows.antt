@@ -6,10 +6,11 @@ use mathlib.Core.List.{[], ◌∷◌}
 use native.Mathlib.Omega.{arith}
 use lib.Dec.{leb}
 use borrow.Author.Tests.{le-leb, lt-leb}
+use Rattle.std.specs.List.{list_any}
 use Rattle.basics.proofs.Cases.{on, absorb}
 use Rattle.rules.specs.Limits.{year}
 use Rattle.rules.specs.Kinds.{final_notice, disconnection}
-use Rattle.rules.specs.History.{History, is, within, last_posted, any, count}
+use Rattle.rules.specs.History.{History, is, within, last_posted, count}
 use Rattle.rules.specs.Deposit.{in_year}
 use Rattle.rules.proofs.Days.{Sorted}
 use Rattle.deposit.specs.declared.Conduct.{Conduct}
@@ -20,7 +21,7 @@ abbrev pub notices : History → ℕ → ℕ
 notices h t = count (λ e. is final_notice e && in_year t e) h
 
 abbrev pub was_cut : History → ℕ → Bool
-was_cut h t = any (λ e. is disconnection e && in_year t e) h
+was_cut h t = list_any (λ e. is disconnection e && in_year t e) h
 
 -- ---- a day that is kept as the day after it
 recent_now : (d t : ℕ) → d ≤ t → within d (d + (year - 1)) t ≡ leb t (d + (year - 1))

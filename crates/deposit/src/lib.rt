@@ -3,28 +3,14 @@
 #![tactic(auto)]
 
 ghost use Rattle.std.specs.Prelude.{◌≡◌, length};
-ghost use Rattle.deposit.specs.Deposit.{is_full, deposit_after, concerns, deposit_ok, DepositFit, earned_by, deposit_size, deposit_on};
+ghost use Rattle.span.proofs.Law.{whole as all_words};
+ghost use Rattle.deposit.specs.Deposit.{is_full, deposit_after, concerns, deposit_ok, DepositFit, earned_by, deposit_size, deposit_on, deposit_words};
 ghost use Rattle.deposit.specs.Conduct.{conduct_after, in_year_by, quiet_by, conduct_ok};
 
 use rules::kinds::Kind;
 use rules::limits::{FINAL_DAY, MOST_DEPOSIT, YEAR};
 use rules::{Event, InRange};
 use span::Part;
-
-// The words, one after the other.
-const HELD: usize = 0;
-
-const REQUIRED: usize = 1;
-
-const FULL_ON: usize = 2;
-
-const FIRST: usize = 3;
-
-const SECOND: usize = 4;
-
-const THIRD: usize = 5;
-
-const CUT: usize = 6;
 
 // From the day after an event to the last of the 365 days in which it bars a return.
 const BARS_FOR: u64 = YEAR - 2;
@@ -53,7 +39,7 @@ pub struct Deposit {
 fn in_year(next: u64, t: u64) -> bool
     ensures { result ≡ in_year_by next t }
 {
-    (1 <= next) & (t.saturating_sub(next) <= BARS_FOR)
+    1 <= next && t.saturating_sub(next) <= BARS_FOR
 }
 
 impl Conduct {
@@ -61,17 +47,16 @@ impl Conduct {
     fn after(self, e: Event) -> Conduct
         ensures { result ≡ conduct_after self e }
     {
-        let notice = e.is(Kind::FinalNotice);
         let next = u64::from(e.day) + 1;
-        Conduct {
-            first: if notice { next } else { self.first },
-            second: if notice { self.first } else { self.second },
-            third: if notice { self.second } else { self.third },
-            cut: if e.is(Kind::Disconnection) {
-                next
-            } else {
-                self.cut
+        match Kind::try_from(e.kind) {
+            Ok(Kind::FinalNotice) => Conduct {
+                first: next,
+                second: self.first,
+                third: self.second,
+                ..self
             },
+            Ok(Kind::Disconnection) => Conduct { cut: next, ..self },
+            _ => self,
         }
     }
 
@@ -79,16 +64,16 @@ impl Conduct {
     fn quiet(self, t: u64) -> bool
         ensures { result ≡ quiet_by self t }
     {
-        !in_year(self.third, t) & !in_year(self.cut, t)
+        !in_year(self.third, t) && !in_year(self.cut, t)
     }
 
     fn ok(self) -> bool
         ensures { result ≡ conduct_ok self }
     {
-        (self.first <= FINAL_DAY + 1)
-            & (self.second <= self.first)
-            & (self.third <= self.second)
-            & (self.cut <= FINAL_DAY + 1)
+        self.first <= FINAL_DAY + 1
+            && self.second <= self.first
+            && self.third <= self.second
+            && self.cut <= FINAL_DAY + 1
     }
 }
 
@@ -96,7 +81,7 @@ impl Deposit {
     fn is_full(self) -> bool
         ensures { result ≡ is_full self }
     {
-        (0 < self.required) & (self.held == self.required)
+        0 < self.required && self.held == self.required
     }
 
     // What it becomes when the event is accepted.
@@ -105,19 +90,26 @@ impl Deposit {
         ensures { result ≡ deposit_after self posted.event }
     {
         let e = posted.event;
-        let moves = e.moves_deposit();
-        let paid = e.is(Kind::DepositPaid);
-        let held = self.held + if paid { e.amount } else { 0 };
-        let asked = if e.is(Kind::DepositAsked) {
-            e.amount
-        } else {
-            self.required
-        };
-        Deposit {
-            held: if moves { 0 } else { held },
-            required: if moves { 0 } else { asked },
-            full_on: if paid { u64::from(e.day) } else { self.full_on },
-            conduct: self.conduct.after(e),
+        match Kind::try_from(e.kind) {
+            Ok(Kind::DepositAsked) => Deposit {
+                required: e.amount,
+                ..self
+            },
+            Ok(Kind::DepositPaid) => Deposit {
+                held: self.held + e.amount,
+                full_on: u64::from(e.day),
+                ..self
+            },
+            Ok(Kind::DepositMoved | Kind::Closing) => Deposit {
+                held: 0,
+                required: 0,
+                ..self
+            },
+            Ok(Kind::FinalNotice | Kind::Disconnection) => Deposit {
+                conduct: self.conduct.after(e),
+                ..self
+            },
+            _ => self,
         }
     }
 
@@ -125,7 +117,7 @@ impl Deposit {
     pub fn earned(self, t: u64) -> bool
         ensures { result ≡ earned_by self t }
     {
-        self.is_full() & (YEAR <= t.saturating_sub(self.full_on)) & self.conduct.quiet(t)
+        self.is_full() && YEAR <= t.saturating_sub(self.full_on) && self.conduct.quiet(t)
     }
 }
 
@@ -134,39 +126,54 @@ impl Part for Deposit {
 
     ghost on = { deposit_on };
 
+    ghost words = { deposit_words };
+
     ghost passes = { deposit_ok };
+
+    ghost whole = { all_words deposit_size };
 
     const WORDS: usize = 7;
 
+    // The words, one after the other.
     fn load(w: &[u64]) -> Deposit {
+        let [held, required, full_on, first, second, third, cut] = *w.as_array::<7>().unwrap();
+        let conduct = Conduct {
+            first,
+            second,
+            third,
+            cut,
+        };
         Deposit {
-            held: w[HELD],
-            required: w[REQUIRED],
-            full_on: w[FULL_ON],
-            conduct: Conduct {
-                first: w[FIRST],
-                second: w[SECOND],
-                third: w[THIRD],
-                cut: w[CUT],
-            },
+            held,
+            required,
+            full_on,
+            conduct,
         }
     }
 
     fn store(self, w: &mut [u64]) {
-        w[HELD] = self.held;
-        w[REQUIRED] = self.required;
-        w[FULL_ON] = self.full_on;
-        w[FIRST] = self.conduct.first;
-        w[SECOND] = self.conduct.second;
-        w[THIRD] = self.conduct.third;
-        w[CUT] = self.conduct.cut;
+        let Conduct {
+            first,
+            second,
+            third,
+            cut,
+        } = self.conduct;
+        w.copy_from_slice(&[
+            self.held,
+            self.required,
+            self.full_on,
+            first,
+            second,
+            third,
+            cut,
+        ]);
     }
 
     fn ok(self) -> bool {
-        (self.held <= self.required)
-            & (self.required <= MOST_DEPOSIT)
-            & (self.full_on <= FINAL_DAY)
-            & self.conduct.ok()
+        self.held <= self.required
+            && self.required <= MOST_DEPOSIT
+            && self.full_on <= FINAL_DAY
+            && self.conduct.ok()
     }
 }
 

@@ -6,11 +6,11 @@ use mathlib.Core.List.{[], ◌∷◌, ◌++◌}
 use native.Mathlib.Omega.{arith}
 use lib.ListN.{length, length-set}
 use borrow.Author.Tests.{ltb-true}
+use Rattle.std.specs.List.{filter}
 use Rattle.basics.proofs.Cases.{on_le, on_lt}
 use Rattle.rules.specs.declared.Event.{Event}
 use Rattle.rules.specs.Kinds.{payout}
 use Rattle.rules.specs.History.{amount_if}
-use Rattle.rules.specs.Money.{keep}
 use Rattle.rules.specs.Limits.{most_open}
 use Rattle.ledger.specs.Ring.{ring_size, upto_at, stored, items_from, closed_from, below_from}
 use Rattle.ledger.specs.Ledger.{Ledger, credits_by, open_of, entered_in, credited_in, paid_from, settled, ledger_after, is_settled}
@@ -50,7 +50,7 @@ module _ (l : Ledger) (c : l.closed ≤ l.made) where
   left : l.closed + (l.made - l.closed) ≡ l.made
   left = omega arith
 
-  pub settle_open : Chained l.below l.charged (open_of l) → open_of (settled l) ≡ keep (is_open (credits_by l)) (open_of l)
+  pub settle_open : Chained l.below l.charged (open_of l) → open_of (settled l) ≡ filter (is_open (credits_by l)) (open_of l)
   settle_open e =
       ap (λ m. items_from (m - (settled l).closed) (settled l).closed (settled l).below l.ring) (sym left)
       ∙ left_open (credits_by l) l.charged l.ring (l.made - l.closed) l.closed l.below e

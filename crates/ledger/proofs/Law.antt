@@ -11,19 +11,19 @@ use lib.ListN.{length, length-append}
 use borrow.Author.Tests.{ltb-true, lt-ltb, leb-false, le-leb}
 use Rattle.basics.specs.Machine.{largest}
 use Rattle.basics.proofs.Cases.{on}
-use Rattle.std.specs.List.{All}
-use Rattle.std.proofs.lemmas.List.Elements.{All-nil, All-cons, All-append, All-weaker}
+use Rattle.std.specs.List.{All, filter}
+use Rattle.std.proofs.lemmas.List.Elements.{All-nil, All-cons, All-append, All-weaker, filter-append}
+use Rattle.std.proofs.lemmas.List.Sums.{length-filter, count_by-le-length}
 use Rattle.rules.specs.declared.Event.{Event}
-use Rattle.rules.specs.declared.Item.{Item}
 use Rattle.rules.specs.Kinds.{payment, payout}
 use Rattle.rules.specs.History.{History, amount_if, total}
 use Rattle.rules.specs.Deposit.{held}
-use Rattle.rules.specs.Money.{credit_by, credited, credits, charges, charge, charged, owed, items, unpaid, sum_of, keep, open_items, due, arrears}
+use Rattle.rules.specs.Money.{Item, credit_by, credited, credits, charges, charge, charged, owed, items, unpaid, sum_of, open_items, due, arrears}
 use Rattle.rules.specs.Range.{in_range}
 use Rattle.rules.specs.Limits.{limit, most_open, grace}
 use Rattle.rules.specs.Receipts.{named_payment}
 use Rattle.rules.specs.Accepted.{view_of, Lawful}
-use Rattle.rules.proofs.Items.{keep_append, keep_keep, keep_same, keep_short, sum_keep, sum_mono}
+use Rattle.rules.proofs.Items.{keep_keep, keep_same, sum_keep, sum_mono}
 use Rattle.rules.proofs.Sums.{total_grows, credited_step, no_charge}
 use Rattle.rules.proofs.Passed.{passed}
 use Rattle.rules.proofs.Room.{payout_in}
@@ -69,7 +69,7 @@ still h e w x p o =
 
 -- ---- the stored form is the declared one
 abbrev kept : History → List Item
-kept h = keep (is_open (credits h)) (items h)
+kept h = filter (is_open (credits h)) (items h)
 
 open_unpaid : (p : ℕ) (x : Item) → 0 < x.amount → is_open p x ≡ ltb 0 (unpaid p x)
 open_unpaid p x q = grind (arith, common_steps)
@@ -78,19 +78,20 @@ kept_open : (h : History) → Lawful h → kept h ≡ open_items h
 kept_open h w = keep_same (Sound (charged h)) (is_open (credits h)) (λ x. ltb 0 (unpaid (credits h) x)) (λ x p. open_unpaid (credits h) x p.1)
     (items h) (sound h w)
 
-kept_more : (h : History) (e : Event) → Lawful (e ∷ h) → keep (is_open (credits (e ∷ h))) (kept h ++ new h e) ≡ kept (e ∷ h)
+kept_more : (h : History) (e : Event) → Lawful (e ∷ h) → filter (is_open (credits (e ∷ h))) (kept h ++ new h e) ≡ kept (e ∷ h)
 kept_more h e w =
     let g = is_open (credits (e ∷ h)) in
-    keep_append g (kept h) (new h e)
-    ∙ (ap (λ ys. ys ++ keep g (new h e)) (keep_keep (Sound (charged h)) (is_open (credits h)) g (still h e w) (items h) (sound h w.1))
-    ∙ (sym (keep_append g (items h) (new h e))
-    ∙ ap (keep g) (sym (items_more h e))))
+    filter-append g (kept h) (new h e)
+    ∙ (ap (λ ys. ys ++ filter g (new h e)) (keep_keep (Sound (charged h)) (is_open (credits h)) g (still h e w) (items h) (sound h w.1))
+    ∙ (sym (filter-append g (items h) (new h e))
+    ∙ ap (filter g) (sym (items_more h e))))
 
 -- 64 places are enough: row 18
 room_more : (h : History) (e : Event) → Lawful (e ∷ h) → length (kept h) ≤ most_open → length (kept (e ∷ h)) ≤ most_open
 room_more h e w r =
     let m = ap length (kept_more h e w) in
-    let k = keep_short (is_open (credits (e ∷ h))) (kept h ++ new h e) in
+    let k = length-filter (is_open (credits (e ∷ h))) (kept h ++ new h e) in
+    let s = count_by-le-length (is_open (credits (e ∷ h))) (kept h ++ new h e) in
     let a = length-append (kept h) (new h e) in
     let n : length (kept h) ≡ length (open_items h) = ap length (kept_open h w.1) in
     on (charges e)

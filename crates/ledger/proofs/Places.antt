@@ -7,7 +7,7 @@ use native.Mathlib.Omega.{arith}
 use lib.ListN.{length, get_or, replicate, get_or-replicate}
 use lib.Seq.{ext_get_or}
 use Rattle.basics.proofs.Cases.{on_lt, on_eq}
-use Rattle.rules.specs.declared.Item.{Item}
+use Rattle.rules.specs.Money.{Item}
 use Rattle.ledger.specs.Ring.{places, ring_size, day_in, upto_in, day_at, upto_at, stored}
 
 -- past the last

@@ -8,9 +8,9 @@ use native.Mathlib.Omega.{arith}
 use lib.Dec.{ltb}
 use lib.ListN.{length}
 use borrow.Author.Tests.{lt-ltb}
+use Rattle.std.specs.List.{filter}
 use Rattle.basics.proofs.Cases.{on_lt}
-use Rattle.rules.specs.declared.Item.{Item}
-use Rattle.rules.specs.Money.{keep, sum_of}
+use Rattle.rules.specs.Money.{Item, sum_of}
 use Rattle.ledger.specs.Ring.{places, ring_size, upto_at, stored, item_at, items_from, closed_from, below_from}
 
 -- kept while credits of p have not paid all of it
@@ -35,13 +35,13 @@ chain_join b c d a (x ∷ xs) p e = (e.0, chain_join x.upto c d a xs p e.1)
 -- ---- what is paid leaves at the front
 module _ (p c : ℕ) (s : List ℕ) where
   -- where credits stay below the first, all items are open
-  all_open : (b : ℕ) → p < b → (xs : List Item) → Chained b c xs → keep (is_open p) xs ≡ xs
+  all_open : (b : ℕ) → p < b → (xs : List Item) → Chained b c xs → filter (is_open p) xs ≡ xs
   all_open b q [] e = refl
   all_open b q (x ∷ xs) e =
       rw (lt-ltb p x.upto (omega (arith, e.0))) (ap (λ ys. x ∷ ys) (all_open x.upto (omega (arith, e.0)) xs e.1))
 
   pub left_open : (n k b : ℕ) → Chained b c (items_from n k b s)
-      → items_from (k + n - closed_from n k p s) (closed_from n k p s) (below_from n k b p s) s ≡ keep (is_open p) (items_from n k b s)
+      → items_from (k + n - closed_from n k p s) (closed_from n k p s) (below_from n k b p s) s ≡ filter (is_open p) (items_from n k b s)
   left_open zero k b e = let z : k + 0 - k ≡ 0 = omega arith in rw z
   left_open (suc n) k b e =
       on_lt p (upto_at s k)

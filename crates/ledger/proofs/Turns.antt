@@ -8,8 +8,7 @@ use lib.Dec.{eqb}
 use lib.ListN.{get_or, length-map, get_or-eq_default}
 use borrow.Author.Tests.{lt-ltb, le-ltb, ne_eqb}
 use Rattle.basics.specs.Machine.{largest}
-use Rattle.rules.specs.declared.Item.{Item}
-use Rattle.rules.specs.Money.{sum_of}
+use Rattle.rules.specs.Money.{Item, sum_of}
 use Rattle.ledger.specs.Ring.{upto_at, item_at, items_from, closed_from, below_from}
 use Rattle.ledger.specs.Ledger.{Ledger, credits_by, shown_item, open_by, no_item, sum_before}
 use Rattle.ledger.proofs.Ring.{many}

@@ -2,11 +2,10 @@
 use Rattle.std.specs.Prelude.{ℕ, ◌+◌, ◌-◌, ◌≤◌, min, Bool, true, cond, ◌&&◌, ◌||◌, ◌≡◌, List, [], ◌∷◌, map, leb, ltb, eqb, get_or, drop, replicate}
 use Rattle.basics.specs.Machine.{largest}
 use Rattle.rules.specs.declared.Event.{Event}
-use Rattle.rules.specs.declared.Item.{Item}
 use Rattle.rules.specs.Kinds.{payout}
 use Rattle.rules.specs.History.{History, is, amount_if}
 use Rattle.rules.specs.Deposit.{held}
-use Rattle.rules.specs.Money.{charges, charge, credit_by, sum_of, unpaid, due}
+use Rattle.rules.specs.Money.{Item, charges, charge, credit_by, sum_of, unpaid, due}
 use Rattle.rules.specs.Limits.{limit, most_open}
 use Rattle.ledger.specs.declared.Sums.{Sums}
 use Rattle.ledger.specs.declared.OpenItem.{OpenItem}

@@ -2,7 +2,7 @@
 -- in its place until item k + 64 is stored there.
 use Rattle.std.specs.Prelude.{ℕ, zero, suc, ◌+◌, ◌-◌, ◌*◌, ◌%◌, cond, List, [], ◌∷◌, ltb, get_or, set}
 use Rattle.rules.specs.Limits.{most_open}
-use Rattle.rules.specs.declared.Item.{Item}
+use Rattle.rules.specs.Money.{Item}
 
 abbrev pub places : ℕ
 places = most_open

@@ -298,7 +298,7 @@ fn is_settled(w: &[u64; WORDS]) -> bool
     ensures { result ≡ is_settled (ledger_on w.now) }
 {
     let closed = w[CLOSED];
-    (w[MADE] <= closed) | (credits(w) < Entry::at(w, closed).upto)
+    w[MADE] <= closed || credits(w) < Entry::at(w, closed).upto
 }
 
 fn head_ok(w: &[u64; WORDS]) -> bool
@@ -308,12 +308,12 @@ fn head_ok(w: &[u64; WORDS]) -> bool
     let credited = w[CREDITED];
     let made = w[MADE];
     let closed = w[CLOSED];
-    (charged <= LIMIT)
-        & (credited <= LIMIT)
-        & (w[PAID_OUT] <= credited)
-        & (made <= charged)
-        & (closed <= made)
-        & (made.saturating_sub(closed) <= MOST_OPEN)
+    charged <= LIMIT
+        && credited <= LIMIT
+        && w[PAID_OUT] <= credited
+        && made <= charged
+        && closed <= made
+        && made.saturating_sub(closed) <= MOST_OPEN
 }
 
 // The test: sums within the limit, payouts within the credits, at most 64 items open and the first of them not paid.
@@ -322,5 +322,5 @@ pub fn ok(w: &[u64]) -> bool
     ensures { result ≡ ledger_ok (ledger_on w.now) }
 {
     let w = whole(w);
-    head_ok(w) & is_settled(w)
+    head_ok(w) && is_settled(w)
 }

@@ -1,18 +1,15 @@
 // Medical certificates and the superintendent's approvals, as an account keeps them: two words of its memory.
 #![tactic(auto)]
 
-ghost use Rattle.std.specs.Prelude.{◌≡◌, true, cond, ◌+◌, ◌≤◌, length};
+ghost use Rattle.std.specs.Prelude.{◌≡◌, ◌+◌, ◌≤◌, length};
+ghost use Rattle.span.proofs.Law.{whole as all_words};
 ghost use Rattle.rules.specs.Limits.{certificate_days};
-ghost use Rattle.medical.specs.Medical.{medical_size, medical_on, medical_after, certified_by, approved_by, medical_ok};
+ghost use Rattle.medical.specs.Medical.{medical_size, medical_on, medical_words, medical_after, certified_by, approved_by, medical_ok};
 
 use rules::kinds::Kind;
 use rules::limits::{APPROVAL_DAYS, CERTIFICATE_DAYS, FINAL_DAY};
 use rules::{Event, InRange};
 use span::Part;
-
-const CERTIFIED_TO: usize = 0;
-
-const APPROVED_TO: usize = 1;
 
 // The last day, 73,048, with the longest certificate and the longest approval.
 const LAST_CERTIFIED: u64 = FINAL_DAY + CERTIFICATE_DAYS;
@@ -27,16 +24,12 @@ pub struct Medical {
     pub approved_to: u64,
 }
 
-// The day past the end of a certificate or an approval; 0 of an event that is not wanted, whose amount may be any and would wrap the sum.
-fn end_of(wanted: bool, e: Event) -> u64
-    requires { wanted ≡ true → e.amount ≤ certificate_days }
-    ensures { result ≡ cond wanted (e.day + e.amount) 0 }
+// The day past the end of a certificate or an approval.
+fn end_of(e: Event) -> u64
+    requires { e.amount ≤ certificate_days }
+    ensures { result ≡ e.day + e.amount }
 {
-    if wanted {
-        u64::from(e.day) + e.amount
-    } else {
-        0
-    }
+    u64::from(e.day) + e.amount
 }
 
 impl Medical {
@@ -45,12 +38,16 @@ impl Medical {
         ensures { result ≡ medical_after self posted.event }
     {
         let e = posted.event;
-        let certificate = e.is(Kind::Certificate);
-        let certified_to = self.certified_to.max(end_of(certificate, e));
-        let approved_to = self.approved_to.max(end_of(e.is(Kind::Approval), e));
-        Medical {
-            certified_to,
-            approved_to: if certificate { 0 } else { approved_to },
+        match Kind::try_from(e.kind) {
+            Ok(Kind::Certificate) => Medical {
+                certified_to: self.certified_to.max(end_of(e)),
+                approved_to: 0,
+            },
+            Ok(Kind::Approval) => Medical {
+                approved_to: self.approved_to.max(end_of(e)),
+                ..self
+            },
+            _ => self,
         }
     }
 
@@ -74,25 +71,29 @@ impl Part for Medical {
 
     ghost on = { medical_on };
 
+    ghost words = { medical_words };
+
     ghost passes = { medical_ok };
+
+    ghost whole = { all_words medical_size };
 
     const WORDS: usize = 2;
 
     fn load(w: &[u64]) -> Medical {
+        let [certified_to, approved_to] = *w.as_array::<2>().unwrap();
         Medical {
-            certified_to: w[CERTIFIED_TO],
-            approved_to: w[APPROVED_TO],
+            certified_to,
+            approved_to,
         }
     }
 
     fn store(self, w: &mut [u64]) {
-        w[CERTIFIED_TO] = self.certified_to;
-        w[APPROVED_TO] = self.approved_to;
+        w.copy_from_slice(&[self.certified_to, self.approved_to]);
     }
 
     // Both ends are days that an event in range can set.
     fn ok(self) -> bool {
-        (self.certified_to <= LAST_CERTIFIED) & (self.approved_to <= LAST_APPROVED)
+        self.certified_to <= LAST_CERTIFIED && self.approved_to <= LAST_APPROVED
     }
 }
 
@@ -102,7 +103,7 @@ pub fn step(w: &mut [u64], posted: InRange)
     ensures { medical_on w.new ≡ medical_after (medical_on w.old) posted.event }
 {
     let e = posted.event;
-    if e.is(Kind::Certificate) | e.is(Kind::Approval) {
+    if e.is(Kind::Certificate) || e.is(Kind::Approval) {
         span::change(w, |m: Medical| m.after(posted));
     }
 }

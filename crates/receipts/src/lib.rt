@@ -47,7 +47,7 @@ pub fn payment(w: &[u64], till: u8, receipt: u64) -> u64
     ensures { result ≡ payment_by (receipts_on w.now) till receipt }
 {
     let n = count(w, till);
-    let known = (1..=n).contains(&receipt) & (n.saturating_sub(receipt) < KNOWN_RECEIPTS);
+    let known = (1..=n).contains(&receipt) && n.saturating_sub(receipt) < KNOWN_RECEIPTS;
     if known { w[place(till, receipt)] } else { 0 }
 }
 

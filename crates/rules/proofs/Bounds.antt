@@ -17,7 +17,7 @@ use Rattle.rules.specs.Kinds.{bill, payment, returned_payment, fee, deposit_aske
 use Rattle.rules.specs.Limits.{final_day, most_deposit, limit, grace, known_receipts}
 use Rattle.rules.specs.History.{History, is, within, last_posted, total}
 use Rattle.rules.specs.Fees.{fees, fee_of}
-use Rattle.rules.specs.Receipts.{is_at, payments, returned, known, named_payment}
+use Rattle.rules.specs.Receipts.{is_at, payments, returned, known, returnable, named_payment}
 use Rattle.rules.specs.Deposit.{moves, held, required}
 use Rattle.rules.specs.Money.{credited, credits, charges, charge, charged, due, items, arrears}
 use Rattle.rules.specs.Arrangement.{terms, paid_since, returned_since}
@@ -158,7 +158,7 @@ payments_count till (e ∷ h) w =
 pub count_limit : (till : ℕ) (h : History) → Lawful h → length (payments till h) ≤ limit
 count_limit till h w = omega (arith, payments_count till h w, credited_limit h w)
 
--- every payment is above 0, so that 0 can stand for a receipt that is not known
+-- every payment is above 0
 payments_above : (till : ℕ) (h : History) → Lawful h → list_all (ltb 0) (payments till h) ≡ true
 payments_above till [] w = refl
 payments_above till (e ∷ h) w =
@@ -166,6 +166,17 @@ payments_above till (e ∷ h) w =
     on (is_at till payment e)
     (λ q. rw (q, lt-ltb 0 e.amount (ranged payment e (passed h e w.0).fields_fit (of_till till payment e q)).amount_low) ih)
     (λ q. rw q ih)
+
+-- so the payment of a receipt is above 0 just where the receipt is known, and 0 can stand for none
+pub known_is : (till : ℕ) (h : History) → Lawful h → (r : ℕ) → known till h r ≡ ltb 0 (returnable till h r)
+known_is till h w r =
+    let n = length (payments till h) in
+    on (known till h r)
+    (λ k.
+    let b = (and_parts (within 1 n r && ltb (n - r) known_receipts) _ k).0 in
+    let v = within_true 1 n r (and_parts (within 1 n r) _ b).0 in
+    rw (k, and_at (list_all (ltb 0)) (ltb 0) refl (λ x xs. refl) (payments till h) (n - r) 0 (omega arith) (payments_above till h w)))
+    (λ k. rw k)
 
 -- ---- the arrangement
 pub debt_limit : (h : History) → Lawful h → (terms h).debt ≤ limit

@@ -6,11 +6,10 @@ use mathlib.Core.List.{List, [], ◌∷◌, ◌++◌, map}
 use lib.Dec.{eqb}
 use lib.ListN.{length, get_or}
 use Rattle.rules.specs.declared.Event.{Event}
-use Rattle.rules.specs.declared.Item.{Item}
 use Rattle.rules.specs.Kinds as kinds
 use Rattle.rules.specs.Deposit as deposit
 use Rattle.rules.specs.Service.{service, is_on, is_off}
-use Rattle.rules.specs.Money.{charged, credits, unpaid, open_items}
+use Rattle.rules.specs.Money.{Item, charged, credits, unpaid, open_items}
 use Rattle.rules.specs.Money as money
 use Rattle.rules.specs.Notice.{notice_live}
 use Rattle.rules.specs.Medical as medical

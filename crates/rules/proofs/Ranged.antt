@@ -1,12 +1,15 @@
 -- What row 3 says of an event's fields, one law for all kinds.
-use Prim.Native.Nat.{ℕ, ◌≤◌}
-use mathlib.Core.Path.{◌≡◌, subst}
+use Prim.Native.Nat.{ℕ, ◌≤◌, zero-le}
+use mathlib.Core.Path.{◌≡◌, subst, sym}
 use mathlib.Core.Bool.{true}
 use lib.ListN.{get_or}
-use Rattle.std.proofs.lemmas.Bool.{and_parts}
+use borrow.Author.Tests.{eqb-true}
+use Rattle.std.proofs.lemmas.Bool.{and_parts, cond_both}
 use Rattle.rules.specs.declared.Event.{Event}
 use Rattle.rules.specs.declared.Fields.{Fields}
-use Rattle.rules.specs.History.{within}
+use Rattle.rules.specs.declared.kinds.Kind.{Kind}
+use Rattle.rules.specs.Kinds.{kind_number}
+use Rattle.rules.specs.History.{is, within, amount_if}
 use Rattle.rules.specs.Range.{unknown, fields, fits, in_range}
 use Rattle.rules.proofs.Days.{within_true}
 
@@ -26,3 +29,11 @@ fitting f e r =
 pub ranged : (k : ℕ) (e : Event) → in_range e ≡ true → e.kind ≡ k → Within (get_or fields k unknown) e
 unfolding in_range
 ranged k e r z = fitting (get_or fields k unknown) e (subst (λ n. fits (get_or fields n unknown) e ≡ true) z r)
+
+-- the same of an event whose number was decoded, to a kind that turned out to be k
+pub ranged_kind : {j k : Kind} → (e : Event) → in_range e ≡ true → j ≡ k → kind_number j ≡ e.kind → Within (get_or fields (kind_number k) unknown) e
+ranged_kind {k = k} e r q z = ranged (kind_number k) e r (rw (← q) (sym z))
+
+-- what an event of kind k moves is at most what row 3 allows the kind, and every other event moves none of it
+pub amount_if_lem : (k : ℕ) (e : Event) → in_range e ≡ true → amount_if k e ≤ (get_or fields k unknown).amount_to
+amount_if_lem k e r = cond_both (is k e) e.amount 0 (λ n. n ≤ (get_or fields k unknown).amount_to) (λ q. (ranged k e r (eqb-true e.kind k q)).amount_high) (λ q. zero-le)

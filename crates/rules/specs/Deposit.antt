@@ -1,9 +1,10 @@
 -- The deposit: asked, paid, moved to the credits.
 use Rattle.std.specs.Prelude.{ℕ, ◌+◌, ◌-◌, Bool, cond, not, ◌&&◌, ◌||◌, [], ◌∷◌, leb, ltb, eqb}
+use Rattle.std.specs.List.{list_any}
 use Rattle.rules.specs.Limits.{year, most_notices}
 use Rattle.rules.specs.declared.Event.{Event}
 use Rattle.rules.specs.Kinds.{deposit_asked, deposit_paid, deposit_moved, final_notice, disconnection, closing}
-use Rattle.rules.specs.History.{History, is, within, any, count, since, total, newest}
+use Rattle.rules.specs.History.{History, is, within, count, since, total, newest}
 
 -- a deposit is moved by 7, and by closing, earned or not
 abbrev pub moves : Event → Bool
@@ -41,4 +42,4 @@ earned h t =
     full h
     && leb (full_on h + year) t
     && leb (count (λ e. is final_notice e && in_year t e) h) most_notices
-    && not (any (λ e. is disconnection e && in_year t e) h)
+    && not (list_any (λ e. is disconnection e && in_year t e) h)

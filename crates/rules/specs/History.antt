@@ -1,5 +1,5 @@
 -- A history: the accepted events, newest first; and the few ways in which the rules look through one.
-use Rattle.std.specs.Prelude.{ℕ, ◌+◌, Bool, false, cond, ◌&&◌, ◌||◌, List, [], ◌∷◌, leb, eqb}
+use Rattle.std.specs.Prelude.{ℕ, ◌+◌, Bool, cond, ◌&&◌, List, [], ◌∷◌, leb, eqb}
 use Rattle.rules.specs.declared.Event.{Event}
 
 -- `e ∷ h` is "h, and then e"; `[]` is before the first event
@@ -18,11 +18,6 @@ within a b t = leb a t && leb t b
 abbrev pub last_posted : History → ℕ
 last_posted [] = 0
 last_posted (e ∷ h) = e.day
-
--- some event passes p
-abbrev pub any : (Event → Bool) → History → Bool
-any p [] = false
-any p (e ∷ h) = p e || any p h
 
 -- how many events pass p
 abbrev pub count : (Event → Bool) → History → ℕ

@@ -1,9 +1,9 @@
 -- Charges and credits: C, P, the items, their unpaid parts, the arrears.
 use Rattle.std.specs.Prelude.{ℕ, ◌+◌, ◌*◌, ◌-◌, ◌/◌, min, Bool, cond, ◌||◌, List, [], ◌∷◌, ◌++◌, leb, ltb, ℤ}
+use Rattle.std.specs.List.{filter}
 use Rattle.std.proofs.Math.IntN.{sub_ℕ}
 use Rattle.rules.specs.Limits.{grace}
 use Rattle.rules.specs.declared.Event.{Event}
-use Rattle.rules.specs.declared.Item.{Item}
 use Rattle.rules.specs.Kinds.{bill, payment, returned_payment, fee, payout, final_notice, reconnection}
 use Rattle.rules.specs.History.{History, is, amount_if, total}
 use Rattle.rules.specs.Fees.{fee_of, fee_number}
@@ -54,7 +54,13 @@ abbrev pub owed : History → ℤ
 owed h = sub_ℕ (charged h) (credits h)
 
 -- ---- items
--- every item in the order posted, with its event's day, its amount a_k, and C_k, the sum of items 1 to k
+-- an item: its event's day, its amount a_k, and C_k, the sum of items 1 to k
+pub record Item : Type 0 where
+  pub day : ℕ
+  pub amount : ℕ
+  pub upto : ℕ
+
+-- every item in the order posted
 abbrev pub items : History → List Item
 items [] = []
 items (e ∷ h) =
@@ -71,14 +77,9 @@ abbrev pub sum_of : (Item → ℕ) → List Item → ℕ
 sum_of f [] = 0
 sum_of f (x ∷ xs) = f x + sum_of f xs
 
--- the items that pass f
-abbrev pub keep : (Item → Bool) → List Item → List Item
-keep f [] = []
-keep f (x ∷ xs) = cond (f x) (x ∷ keep f xs) (keep f xs)
-
 -- open: the unpaid part is above 0
 abbrev pub open_items : History → List Item
-open_items h = keep (λ x. ltb 0 (unpaid (credits h) x)) (items h)
+open_items h = filter (λ x. ltb 0 (unpaid (credits h) x)) (items h)
 
 -- the unpaid part of an item that is delinquent on t: its day + 20 ≤ t
 abbrev pub due : ℕ → ℕ → Item → ℕ

@@ -1,8 +1,9 @@
 -- Final notices and calls.
 use Rattle.std.specs.Prelude.{ℕ, ◌+◌, Bool, false, not, ◌&&◌, ◌||◌, [], ◌∷◌, leb}
+use Rattle.std.specs.List.{list_any}
 use Rattle.rules.specs.Limits.{enough, notice_from, notice_to, call_days}
 use Rattle.rules.specs.Kinds.{final_notice, call, disconnection}
-use Rattle.rules.specs.History.{History, is, within, any}
+use Rattle.rules.specs.History.{History, is, within}
 use Rattle.rules.specs.Money.{arrears}
 
 -- some notice whose day passes p: no later disconnection used it up, and after it and after each later event the arrears on that
@@ -24,4 +25,4 @@ notice_in_days h t = surviving (λ n. within (n + notice_from) (n + notice_to) t
 
 -- a call on some day from t − 3 to t − 1
 abbrev pub called : History → ℕ → Bool
-called h t = any (λ e. is call e && within (e.day + 1) (e.day + call_days) t) h
+called h t = list_any (λ e. is call e && within (e.day + 1) (e.day + call_days) t) h

@@ -1,9 +1,10 @@
 -- Receipts: each till counts its own, 1, 2, 3 .. over its accepted payments. The option of a payment, and of a returned one, names the till.
 use Rattle.std.specs.Prelude.{ℕ, ◌-◌, Bool, cond, not, ◌&&◌, List, [], ◌∷◌, ltb, eqb, length, get_or}
+use Rattle.std.specs.List.{list_any}
 use Rattle.rules.specs.declared.Event.{Event}
 use Rattle.rules.specs.Limits.{known_receipts}
 use Rattle.rules.specs.Kinds.{payment, returned_payment}
-use Rattle.rules.specs.History.{History, is, within, any}
+use Rattle.rules.specs.History.{History, is, within}
 
 -- e is of kind k, and names the till
 abbrev pub is_at : ℕ → ℕ → Event → Bool
@@ -16,7 +17,7 @@ payments till (e ∷ h) = cond (is_at till payment e) (e.amount ∷ payments til
 
 -- the payment of the till's receipt r has been returned
 abbrev pub returned : ℕ → History → ℕ → Bool
-returned till h r = any (λ e. is_at till returned_payment e && eqb e.amount r) h
+returned till h r = list_any (λ e. is_at till returned_payment e && eqb e.amount r) h
 
 -- known: each till's newest 16 payments, each returned once
 abbrev pub known : ℕ → History → ℕ → Bool

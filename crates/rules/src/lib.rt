@@ -53,15 +53,6 @@ pub enum Service {
 // Accepted, with the receipt of a payment, 0 for others: the papers' value of an answer, which C adds to 256; or refused.
 pub type Answer = Result<u64, Refusal>;
 
-// A charge: its day, its amount, and the sum of all charges up to it (document 01: an item, a_k, C_k). Only definitions speak of it: the
-// ledger keeps the day and the sum.
-#[derive(Clone, Copy)]
-pub struct Item {
-    pub day: u32,
-    pub amount: u64,
-    pub upto: u64,
-}
-
 // What the table looks at when one event is offered, flat, as the definitions speak of it. An account makes one of its fields, the rules
 // one of the history.
 #[derive(Clone, Copy)]
@@ -119,7 +110,7 @@ impl Event {
     pub fn moves_deposit(self) -> bool
         ensures { result ≡ moves_deposit self }
     {
-        self.is(Kind::DepositMoved) | self.is(Kind::Closing)
+        self.is(Kind::DepositMoved) || self.is(Kind::Closing)
     }
 }
 

@@ -17,7 +17,7 @@ pub const MOST_AMOUNT: u64 = 10_000_000_000;
 
 pub const MOST_DEPOSIT: u64 = 100_000_000;
 
-pub const MOST_RECEIPT: u64 = 18_446_744_073_709_551_615;
+pub const MOST_RECEIPT: u64 = u64::MAX;
 
 // Tills are numbered from 0 to this one, and so many of each till's newest payments are known by their receipts.
 pub const LAST_TILL: u8 = 4;

@@ -13,6 +13,9 @@ pub trait Part: Copy {
     // the value that they hold
     ghost on: { List ℕ → Self };
 
+    // the words that hold it
+    ghost words: { Self → List ℕ };
+
     // its test
     ghost passes: { Self → Bool };
 
@@ -28,6 +31,9 @@ pub trait Part: Copy {
 
     fn ok(self) -> bool
         ensures { result ≡ passes self };
+
+    // They are all of it: equal parts are equal memory.
+    ghost whole: { (w : List ℕ) → length w ≡ WORDS → w ≡ words (on w) };
 }
 
 // The step of a part: which events concern it, and what they change, is all that a part says of its own.

@@ -42,7 +42,7 @@ pub fn returned_rows(v: View, charge: u64) -> Result<(), Refusal>
 pub fn moved_rows(v: View) -> Result<(), Refusal>
     ensures { result ≡ answered (moved_rows v) tt }
 {
-    Refusal::WrongSum.when((v.required == 0) | (v.held != v.required))?;
+    Refusal::WrongSum.when(v.required == 0 || v.held != v.required)?;
     Refusal::NotEarned.when(!v.earned)?;
     credit_rows(v.credited, v.held)
 }
@@ -80,7 +80,7 @@ pub fn cut_rows(v: View) -> Result<(), Refusal>
     Refusal::NoNotice.when(!v.notice_in_days)?;
     Refusal::NoCall.when(!v.called)?;
     Refusal::Arranged.when(v.in_force)?;
-    Refusal::Certified.when(v.certified & !v.approved)
+    Refusal::Certified.when(v.certified && !v.approved)
 }
 
 // 5: not off; 16: arrears, and no arrangement in force; 17: less held than required; then 18 and 19.
@@ -88,7 +88,7 @@ pub fn reconnection_rows(v: View, charge: u64) -> Result<(), Refusal>
     ensures { result ≡ answered (reconnection_rows v charge) tt }
 {
     Refusal::WrongService.when(!v.service.is_off())?;
-    Refusal::InArrears.when((0 < v.arrears) & !v.in_force)?;
+    Refusal::InArrears.when(0 < v.arrears && !v.in_force)?;
     Refusal::DepositShort.when(v.held < v.required)?;
     item_rows(v.open_count, v.charged, charge)
 }

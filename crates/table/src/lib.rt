@@ -34,7 +34,7 @@ fn row4(v: View, e: Event) -> bool
     ensures { result ≡ Row4 v e }
 {
     v.service.is_closed()
-        & !(e.is(Kind::Payment) | e.is(Kind::ReturnedPayment) | e.is(Kind::Payout))
+        && !(e.is(Kind::Payment) || e.is(Kind::ReturnedPayment) || e.is(Kind::Payout))
 }
 
 // 5 to 19, of which each kind has its own; `charge` is the amount of the item that the event makes; 0 where it makes
@@ -56,7 +56,7 @@ fn from_row5(v: View, e: Event, charge: u64) -> Result<(), Refusal>
         Kind::DepositPaid => arms::over_row(v.required, v.held, e.amount),
         Kind::DepositMoved => arms::moved_rows(v),
         Kind::Payout => arms::over_row(v.credits, v.charged, e.amount),
-        Kind::Arrangement => Refusal::NothingToArrange.when((v.arrears == 0) | v.in_force),
+        Kind::Arrangement => Refusal::NothingToArrange.when(v.arrears == 0 || v.in_force),
         Kind::FinalNotice => arms::notice_rows(v, charge),
         Kind::Call => arms::call_row(v),
         Kind::Disconnection => arms::cut_rows(v),

@@ -1,17 +1,8 @@
-use Rattle.std.proofs.Common.{sym, ◌∙◌, arith}
-use borrow.Author.Tests.{eqb-true}
-use Rattle.rules.specs.Kinds.{payment}
-use Rattle.rules.proofs.Ranged.{ranged}
+use Rattle.std.proofs.Common.{arith}
+use Rattle.rules.proofs.Ranged.{ranged_kind}
 use Rattle.arrangement.proofs.Arrangement.after.Goals as goal
-use Rattle.arrangement.proofs.Arrangement.after.Goals.{then-is, else-is}
 
-pub overflow_add-paid : goal.overflow_add-paid
-overflow_add-paid c =
-    let q = c.requires in
-    let e = c.args.posted.event in
-    elim c.if-is.branch [
-      | then-is w ↦
-          let z = eqb-true e.kind payment (sym c.is.ensures ∙ w.if-is.true) in
-          omega (arith, w.paid-is, q.arrangement_fit.paid_le, (ranged payment e c.args.posted.well_formed.fields_fit z).amount_high)
-      | else-is w ↦ omega (arith, w.paid-is, q.arrangement_fit.paid_le)
-    ]
+pub overflow_add-result : goal.overflow_add-result
+overflow_add-result c =
+    let w = c.in-Ok-Payment in
+    omega (arith, c.requires.arrangement_fit.paid_le, (ranged_kind c.args.posted.event c.args.posted.well_formed.fields_fit w.field-0-is w.ensures).amount_high)

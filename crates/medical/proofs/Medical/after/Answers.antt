@@ -1,16 +1,14 @@
-use Rattle.std.proofs.Common.{sym, ◌∙◌, arith}
-use borrow.Author.Tests.{eqb-true}
-use Rattle.rules.specs.Kinds.{certificate, approval}
-use Rattle.rules.proofs.Ranged.{ranged}
+use Rattle.std.proofs.Common.{arith}
+use Rattle.rules.proofs.Ranged.{ranged_kind}
 use Rattle.medical.proofs.Medical.after.Goals as goal
 
 pub end_of-requires : goal.end_of-requires
 end_of-requires c =
-    let e = c.args.posted.event in
-    λ q. (ranged certificate e c.args.posted.well_formed.fields_fit (eqb-true e.kind certificate (sym c.is-certificate.ensures ∙ q))).amount_high
+    let w = c.in-Ok-Certificate in
+    (ranged_kind c.args.posted.event c.args.posted.well_formed.fields_fit w.field-0-is w.ensures).amount_high
 
-pub end_of-requires-2 : goal.end_of-requires-2
-end_of-requires-2 c =
-    let e = c.args.posted.event in
-    λ q.
-    let a = (ranged approval e c.args.posted.well_formed.fields_fit (eqb-true e.kind approval (sym c.is.ensures ∙ q))).amount_high in omega arith
+pub end_of-requires-in-Ok-Approval : goal.end_of-requires-in-Ok-Approval
+end_of-requires-in-Ok-Approval c =
+    let w = c.in-Ok-Approval in
+    let a = (ranged_kind c.args.posted.event c.args.posted.well_formed.fields_fit w.field-0-is w.ensures).amount_high in
+    omega arith

@@ -1,21 +1,14 @@
--- The part and its words: equal parts are equal memory, and an event that is none of the deposit's leaves them.
-use Prim.Native.Nat.{ℕ, ◌+◌}
-use mathlib.Core.Path.{◌≡◌, sym}
+-- An event that is none of the deposit's leaves the part as it is.
+use Prim.Native.Nat.{◌+◌}
+use mathlib.Core.Path.{◌≡◌}
 use mathlib.Core.Bool.{false}
-use mathlib.Core.List.{List}
 use native.Mathlib.Omega.{arith}
-use lib.ListN.{length}
-use Rattle.span.proofs.Law.{whole}
 use Rattle.rules.specs.declared.Event.{Event}
 use Rattle.rules.specs.Kinds.{deposit_asked, deposit_paid, deposit_moved, final_notice, disconnection, closing}
 use Rattle.rules.specs.History.{is}
 use Rattle.deposit.specs.declared.Deposit.{Deposit}
-use Rattle.deposit.specs.Deposit.{deposit_after, concerns, deposit_size, deposit_on, deposit_words}
+use Rattle.deposit.specs.Deposit.{deposit_after, concerns}
 
-pub deposit_whole : (w : List ℕ) → length w ≡ deposit_size → deposit_words (deposit_on w) ≡ w
-deposit_whole w l = sym (whole deposit_size w l)
-
--- ---- an event that is none of the deposit's
 -- of each kind, by what the test says of it
 record Other (e : Event) : Type 0 where
   asked : is deposit_asked e ≡ false
