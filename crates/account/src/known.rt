@@ -2,12 +2,15 @@
 // clause: that it is an account after a step follows from its whole history, and not from the step, so no type could keep it.
 ghost use Rattle.std.specs.Prelude.{◌≡◌, true, false, length, MatchResult};
 ghost use Rattle.rules.specs.declared.refusals.Refusal.TheVariants.{NoAccount};
-ghost use Rattle.receipts.specs.Receipts.{receipts_on, receipts_size};
-ghost use Rattle.ledger.specs.Ledger.{ledger_on, ledger_size};
+ghost use Rattle.receipts.specs.Receipts.{receipts_on};
+ghost use Rattle.ledger.specs.Ledger.{ledger_on};
 ghost use Rattle.account.specs.State.{state_on, passes as is_account, Fit};
 
 use crate::passes;
-use crate::spans::{ARRANGEMENT, COLLECTION, DEPOSIT, LAST, LEDGER, MEDICAL, RECEIPTS, WORDS};
+use crate::spans::{
+    ARRANGEMENT, COLLECTION, DEPOSIT, LAST, LEDGER, MEDICAL, RECEIPTS, WORDS, ledger_in,
+    receipts_in,
+};
 use arrangement::Arrangement;
 use collection::Collection;
 use deposit::Deposit;
@@ -68,17 +71,15 @@ impl<'a> Known<'a> {
         Arrangement::load(&self.words[ARRANGEMENT..RECEIPTS])
     }
 
-    pub(crate) fn receipts(self) -> &'a [u64]
-        ensures size { length result.now ≡ receipts_size }
-        ensures words { receipts_on result.now ≡ (state_on self.entry.words.now).receipts }
+    pub(crate) fn receipts(self) -> &'a [u64; receipts::WORDS]
+        ensures { receipts_on result.now ≡ (state_on self.entry.words.now).receipts }
     {
-        &self.words[RECEIPTS..LEDGER]
+        self.words[RECEIPTS..LEDGER].as_array().unwrap()
     }
 
-    pub fn ledger(self) -> &'a [u64]
-        ensures size { length result.now ≡ ledger_size }
-        ensures words { ledger_on result.now ≡ (state_on self.entry.words.now).ledger }
+    pub fn ledger(self) -> &'a [u64; ledger::WORDS]
+        ensures { ledger_on result.now ≡ (state_on self.entry.words.now).ledger }
     {
-        &self.words[LEDGER..WORDS]
+        self.words[LEDGER..WORDS].as_array().unwrap()
     }
 }

@@ -41,12 +41,11 @@ pub struct Posted {
 pub fn passes(m: &[u64]) -> bool
     ensures { result ≡ is_account m.now }
 {
-    m.as_array().is_some_and(|w| look::ok(w))
+    m.as_array().is_some_and(look::ok)
 }
 
 // Memory with the words of an account becomes a fresh one: no events, service on, all sums 0.
-pub fn clear(m: &mut [u64])
-    requires { length m.old ≡ account_size }
+pub fn clear(m: &mut [u64; WORDS])
     ensures { m.new ≡ fresh_words }
 {
     m.fill(0);
@@ -54,7 +53,7 @@ pub fn clear(m: &mut [u64])
 }
 
 // An event of any kind. Here and below that the memory is an account is a clause (known.rt says why).
-fn judge_any(m: &mut [u64], e: Event) -> Answer
+fn judge_any(m: &mut [u64; WORDS], e: Event) -> Answer
     requires { Fit m.old }
     ensures { Judges m.old e result m.new }
 {
@@ -65,7 +64,7 @@ fn judge_any(m: &mut [u64], e: Event) -> Answer
 }
 
 // One event judged by the table, in memory that is known to be an account. What is refused changes nothing.
-pub fn judge(m: &mut [u64], e: Event) -> Answer
+pub fn judge(m: &mut [u64; WORDS], e: Event) -> Answer
     requires { Fit m.old }
     ensures { Judges m.old e result m.new }
 {
@@ -83,7 +82,7 @@ pub fn post(m: &mut [u64], e: Event) -> Answer
     ensures { Leaves m.old e result m.new }
 {
     if passes(m) {
-        judge(m, e)
+        judge(m.as_mut_array().unwrap(), e)
     } else {
         Err(Refusal::NoAccount)
     }

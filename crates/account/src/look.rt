@@ -9,7 +9,8 @@ ghost use Rattle.account.specs.Looks.{debts_on, debts_for, money_for, view_from}
 
 use crate::known::Known;
 use crate::spans::{
-    ARRANGEMENT, COLLECTION, DEPOSIT, LAST, LAYOUT, LAYOUT_NUMBER, LEDGER, MEDICAL, RECEIPTS, WORDS,
+    ARRANGEMENT, COLLECTION, DEPOSIT, LAST, LAYOUT, LAYOUT_NUMBER, MEDICAL, RECEIPTS, WORDS,
+    ledger_in, receipts_in,
 };
 use arrangement::Arrangement;
 use collection::Collection;
@@ -131,8 +132,8 @@ fn money_ok(m: &[u64; WORDS]) -> bool
     ensures { result ≡ money_ok (state_on m.now) }
 {
     let a = Arrangement::load(&m[ARRANGEMENT..RECEIPTS]);
-    let r = receipts::ok(&m[RECEIPTS..LEDGER]);
-    let l = ledger::ok(&m[LEDGER..WORDS]);
+    let r = receipts::ok(receipts_in(m));
+    let l = ledger::ok(ledger_in(m));
     a.ok() && r && l
 }
 

@@ -1,4 +1,8 @@
 // Where each part of an account begins: the parts lie one after another, each in a span of its own.
+ghost use Rattle.std.specs.Prelude.{◌≡◌};
+ghost use Rattle.receipts.specs.Receipts.{receipts_on};
+ghost use Rattle.ledger.specs.Ledger.{ledger_on};
+ghost use Rattle.account.specs.State.{state_on};
 
 use arrangement::Arrangement;
 use collection::Collection;
@@ -30,3 +34,16 @@ pub const WORDS: usize = LEDGER + ledger::WORDS;
 // The number of this layout: a million and two, more than any day, with which an account once began. One that is laid out
 // otherwise has another.
 pub const LAYOUT_NUMBER: u64 = 1_000_002;
+
+// The words of the two parts that are read where they lie, with their length in the type.
+pub fn receipts_in(m: &[u64; WORDS]) -> &[u64; receipts::WORDS]
+    ensures { receipts_on result.now ≡ (state_on m.now).receipts }
+{
+    m[RECEIPTS..LEDGER].as_array().unwrap()
+}
+
+pub fn ledger_in(m: &[u64; WORDS]) -> &[u64; ledger::WORDS]
+    ensures { ledger_on result.now ≡ (state_on m.now).ledger }
+{
+    m[LEDGER..WORDS].as_array().unwrap()
+}

@@ -6,12 +6,15 @@ ghost use Rattle.account.specs.State.{account_size, state_on, money_after, file_
 ghost use Rattle.account.specs.Looks.{Became, Passing, Applied};
 
 use crate::rows::Offer;
-use crate::spans::{ARRANGEMENT, COLLECTION, DEPOSIT, LAST, LEDGER, MEDICAL, RECEIPTS, WORDS};
+use crate::spans::{
+    ARRANGEMENT, COLLECTION, DEPOSIT, LAST, LEDGER, MEDICAL, RECEIPTS, WORDS, ledger_in,
+    receipts_in,
+};
 use rules::kinds::Kind;
 use rules::{Event, InRange};
 
 // The money: ledger, receipts and arrangement.
-fn move_money(m: &mut [u64], posted: InRange, offer: Offer)
+fn move_money(m: &mut [u64; WORDS], posted: InRange, offer: Offer)
     requires { Passing m.old posted.event offer.view offer.item }
     ensures { Became m.new (money_after (state_on m.old) posted.event offer.view) }
 {
@@ -24,8 +27,8 @@ fn move_money(m: &mut [u64], posted: InRange, offer: Offer)
 }
 
 // What is kept on file: the deposit, certificates and approvals.
-fn keep_file(m: &mut [u64], posted: InRange)
-    requires { (length m.old ≡ account_size) × DepositFit (state_on m.old).deposit }
+fn keep_file(m: &mut [u64; WORDS], posted: InRange)
+    requires { DepositFit (state_on m.old).deposit }
     ensures { Became m.new (file_after (state_on m.old) posted.event) }
 {
     deposit::step(&mut m[DEPOSIT..MEDICAL], posted);
@@ -33,14 +36,13 @@ fn keep_file(m: &mut [u64], posted: InRange)
 }
 
 // Service, notice and calls, and the day. The arrears after the event are worked out only where a notice could lapse by them.
-fn set_service(m: &mut [u64], e: Event)
-    requires { length m.old ≡ account_size }
+fn set_service(m: &mut [u64; WORDS], e: Event)
     ensures { Became m.new (service_after (state_on m.old) e) }
 {
     let t = u64::from(e.day);
     let watched = collection::watches(&m[COLLECTION..DEPOSIT], e);
     let due = if watched {
-        ledger::arrears(&m[LEDGER..WORDS], t)
+        ledger::arrears(ledger_in(m), t)
     } else {
         0
     };
@@ -49,7 +51,7 @@ fn set_service(m: &mut [u64], e: Event)
 }
 
 // The account after an event that passes; says the receipt of a payment, or 0.
-pub fn apply(m: &mut [u64], posted: InRange, offer: Offer) -> u64
+pub fn apply(m: &mut [u64; WORDS], posted: InRange, offer: Offer) -> u64
     requires { Passing m.old posted.event offer.view offer.item }
     ensures { Applied m.old posted.event offer.view m.new result }
 {
@@ -57,6 +59,6 @@ pub fn apply(m: &mut [u64], posted: InRange, offer: Offer) -> u64
     move_money(m, posted, offer);
     keep_file(m, posted);
     set_service(m, e);
-    let n = receipts::count(&m[RECEIPTS..LEDGER], e.option);
+    let n = receipts::count(receipts_in(m), e.option);
     if e.is(Kind::Payment) { n } else { 0 }
 }

@@ -12,7 +12,9 @@ ghost use Rattle.account.specs.Post.{Judges};
 ghost use Rattle.account.specs.Looks.{Became, Applied, Free, only_item};
 
 use crate::known::Known;
-use crate::spans::{ARRANGEMENT, COLLECTION, DEPOSIT, LAST, LEDGER, RECEIPTS, WORDS};
+use crate::spans::{
+    ARRANGEMENT, COLLECTION, DEPOSIT, LAST, LEDGER, RECEIPTS, WORDS, ledger_in, receipts_in,
+};
 use rules::kinds::Kind;
 use rules::refusals::Refusal;
 use rules::{Answer, Event, InRange};
@@ -20,8 +22,8 @@ use rules::{Answer, Event, InRange};
 // The day, and the notice, which can only lapse. The arrears are worked out only where there is one. `step::set_service` in its place
 // was tried, with payments stored by `arrangement` as other events are: a book then took 2.0 to 2.1 times as long as the same rules in
 // place, where the bar is 2, and a kept account 5.2, where it is 4.
-fn pass_day(m: &mut [u64], e: Event)
-    requires { (length m.old ≡ account_size) × (e.kind < deposit_asked) }
+fn pass_day(m: &mut [u64; WORDS], e: Event)
+    requires { e.kind < deposit_asked }
     ensures { Became m.new (service_after (state_on m.old) e) }
 {
     let t = u64::from(e.day);
@@ -29,7 +31,7 @@ fn pass_day(m: &mut [u64], e: Event)
     if collection::quiet(&m[COLLECTION..DEPOSIT]) {
         return;
     }
-    let due = ledger::arrears(&m[LEDGER..WORDS], t);
+    let due = ledger::arrears(ledger_in(m), t);
     collection::lapse(&mut m[COLLECTION..DEPOSIT], due);
 }
 
@@ -43,7 +45,7 @@ fn check_credit(account: Known, e: Event) -> Result<(), Refusal>
 }
 
 // The money of a payment. The arrears and the payment that `arrangement` is told concern other kinds.
-fn take_payment(m: &mut [u64], posted: InRange)
+fn take_payment(m: &mut [u64; WORDS], posted: InRange)
     requires { let e = posted.event in Free m.old e × (e.kind ≡ payment) }
     ensures { let e = posted.event in Became m.new (money_after (state_on m.old) e (view (state_on m.old) e)) }
 {
@@ -54,16 +56,16 @@ fn take_payment(m: &mut [u64], posted: InRange)
 }
 
 // A payment that passes; says its receipt.
-fn pay(m: &mut [u64], posted: InRange) -> u64
+fn pay(m: &mut [u64; WORDS], posted: InRange) -> u64
     requires { let e = posted.event in Free m.old e × (e.kind ≡ payment) }
     ensures { let e = posted.event in Applied m.old e (view (state_on m.old) e) m.new result }
 {
     take_payment(m, posted);
     pass_day(m, posted.event);
-    receipts::count(&m[RECEIPTS..LEDGER], posted.event.option)
+    receipts::count(receipts_in(m), posted.event.option)
 }
 
-pub fn payment(m: &mut [u64], e: Event) -> Answer
+pub fn payment(m: &mut [u64; WORDS], e: Event) -> Answer
     requires { Fit m.old × (e.kind ≡ payment) }
     ensures { Judges m.old e result m.new }
 {
@@ -103,7 +105,7 @@ fn check_item(account: Known, e: Event) -> Result<u64, Refusal>
 }
 
 // A bill or a fee that passes.
-fn charge_item(m: &mut [u64], e: Event, charge: u64)
+fn charge_item(m: &mut [u64; WORDS], e: Event, charge: u64)
     requires { Free m.old e × (only_item e ≡ true) × (charge ≡ min (charge_of (view (state_on m.old) e) e) largest) }
     ensures { Applied m.old e (view (state_on m.old) e) m.new 0 }
 {
@@ -111,7 +113,7 @@ fn charge_item(m: &mut [u64], e: Event, charge: u64)
     pass_day(m, e);
 }
 
-pub fn item(m: &mut [u64], e: Event) -> Answer
+pub fn item(m: &mut [u64; WORDS], e: Event) -> Answer
     requires { Fit m.old × (only_item e ≡ true) }
     ensures { Judges m.old e result m.new }
 {

@@ -16,8 +16,6 @@ use rules::Event;
 use rules::kinds::Kind;
 use rules::limits::{GRACE, LIMIT, MOST_OPEN};
 
-pub const WORDS: usize = 134;
-
 // all charges (document 01: C)
 const CHARGED: usize = 0;
 
@@ -36,6 +34,8 @@ const BELOW: usize = 5;
 
 // the ring of items: 64 places of two words
 const RING: usize = 6;
+
+pub const WORDS: usize = RING + 2 * (MOST_OPEN as usize);
 
 // What the table asks of every event.
 #[derive(Clone, Copy)]
@@ -62,15 +62,6 @@ pub struct OpenItem {
 }
 
 // ---- what is read
-// The words as an array, whose length its type says. C lends an account as one slice, so what is public takes a slice of it, and its
-// length as a clause.
-fn whole(w: &[u64]) -> &[u64; WORDS]
-    requires { length w.now ≡ ledger_size }
-    ensures { result.now ≡ w.now }
-{
-    w.as_array().unwrap()
-}
-
 // Where item k stands: its day is there, and the sum of all charges up to it follows.
 fn place(k: u64) -> usize
     ensures { result ≡ 6 + day_in k }
@@ -221,11 +212,9 @@ pub fn step(w: &mut [u64], e: Event, item: Option<u64>, credit: u64)
 }
 
 // ---- what it answers
-pub fn sums_of(w: &[u64]) -> Sums
-    requires { length w.now ≡ ledger_size }
+pub fn sums_of(w: &[u64; WORDS]) -> Sums
     ensures { result ≡ sums_of (ledger_on w.now) }
 {
-    let w = whole(w);
     Sums {
         charged: w[CHARGED],
         credited: w[CREDITED],
@@ -235,22 +224,18 @@ pub fn sums_of(w: &[u64]) -> Sums
 }
 
 // What is owed, negative where there is credit.
-pub fn owed(w: &[u64]) -> i64
-    requires w_len { length w.now ≡ ledger_size }
-    requires ledger_fit { LedgerFit (ledger_on w.now) }
+pub fn owed(w: &[u64; WORDS]) -> i64
+    requires { LedgerFit (ledger_on w.now) }
     ensures { result ≡ sub_ℕ (ledger_on w.now).charged (credits_by (ledger_on w.now)) }
 {
-    let w = whole(w);
     w[CHARGED].checked_signed_diff(credits(w)).unwrap()
 }
 
 // The arrears on day t.
 #[tactic(auto, using(crate::proofs::Turns::sum_turn, crate::proofs::Turns::sum_done))]
-pub fn arrears(w: &[u64], t: u64) -> u64
-    requires { length w.now ≡ ledger_size }
+pub fn arrears(w: &[u64; WORDS], t: u64) -> u64
     ensures { result ≡ arrears_by (ledger_on w.now) t }
 {
-    let w = whole(w);
     let p = credits(w);
     let made = w[MADE];
     let mut below = w[BELOW];
@@ -275,11 +260,9 @@ fn sum_before(w: &[u64; WORDS], i: u64) -> u64
 }
 
 // Open item i, from 0 in the order posted; an item of 0 past the last: every index has an answer, as C has it in two numbers.
-pub fn open_item(w: &[u64], i: u64) -> OpenItem
-    requires { length w.now ≡ ledger_size }
+pub fn open_item(w: &[u64; WORDS], i: u64) -> OpenItem
     ensures { result ≡ get_or (open_by (ledger_on w.now)) i no_item }
 {
-    let w = whole(w);
     let closed = w[CLOSED];
     if w[MADE].saturating_sub(closed) <= i {
         return OpenItem { day: 0, unpaid: 0 };
@@ -317,10 +300,8 @@ fn head_ok(w: &[u64; WORDS]) -> bool
 }
 
 // The test: sums within the limit, payouts within the credits, at most 64 items open and the first of them not paid.
-pub fn ok(w: &[u64]) -> bool
-    requires { length w.now ≡ ledger_size }
+pub fn ok(w: &[u64; WORDS]) -> bool
     ensures { result ≡ ledger_ok (ledger_on w.now) }
 {
-    let w = whole(w);
     head_ok(w) && is_settled(w)
 }

@@ -14,11 +14,11 @@ use rules::kinds::Kind;
 use rules::limits::{KNOWN_RECEIPTS, LAST_TILL, LIMIT};
 use rules::{Event, InRange};
 
-pub const WORDS: usize = 85;
-
 // Counts and rings lie in one slice: programs in C keep the account's memory, so its layout is fixed. The count of a till stands at its
 // number, and the rings follow.
 const RECENT: usize = LAST_TILL as usize + 1;
+
+pub const WORDS: usize = RECENT + RECENT * (KNOWN_RECEIPTS as usize);
 
 // Where the payment of a till's receipt stands.
 fn place(till: u8, receipt: u64) -> usize
@@ -29,8 +29,7 @@ fn place(till: u8, receipt: u64) -> usize
 
 // ---- what it answers
 // How many payments of a till were accepted: the receipt of its newest. An event may name any till, and there are five.
-pub fn count(w: &[u64], till: u8) -> u64
-    requires { length w.now ≡ receipts_size }
+pub fn count(w: &[u64; WORDS], till: u8) -> u64
     ensures { result ≡ count_by (receipts_on w.now) till }
 {
     if till <= LAST_TILL {
@@ -42,8 +41,7 @@ pub fn count(w: &[u64], till: u8) -> u64
 
 // The payment of a till's receipt that is known and was not returned, 0 of any other.
 #[tactic(auto, unfolding(rules::specs::History::within))]
-pub fn payment(w: &[u64], till: u8, receipt: u64) -> u64
-    requires { length w.now ≡ receipts_size }
+pub fn payment(w: &[u64; WORDS], till: u8, receipt: u64) -> u64
     ensures { result ≡ payment_by (receipts_on w.now) till receipt }
 {
     let n = count(w, till);
@@ -52,8 +50,7 @@ pub fn payment(w: &[u64], till: u8, receipt: u64) -> u64
 }
 
 // The payment that a returned payment names, 0 of any other event.
-pub fn named(w: &[u64], e: Event) -> u64
-    requires { length w.now ≡ receipts_size }
+pub fn named(w: &[u64; WORDS], e: Event) -> u64
     ensures { result ≡ cond (is returned_payment e) (payment_by (receipts_on w.now) e.option e.amount) 0 }
 {
     if e.is(Kind::ReturnedPayment) {
@@ -64,8 +61,7 @@ pub fn named(w: &[u64], e: Event) -> u64
 }
 
 // The test: no till has more payments than the limit has cents.
-pub fn ok(w: &[u64]) -> bool
-    requires { length w.now ≡ receipts_size }
+pub fn ok(w: &[u64; WORDS]) -> bool
     ensures { result ≡ receipts_ok (receipts_on w.now) }
 {
     w[..RECENT].iter().all(|n| *n <= LIMIT)
@@ -78,6 +74,7 @@ pub fn step(w: &mut [u64], posted: InRange)
     ensures { receipts_on w.new ≡ receipts_after (receipts_on w.old) posted.event }
 {
     let e = posted.event;
+    let w: &mut [u64; WORDS] = w.as_mut_array().unwrap();
     if e.is(Kind::Payment) {
         let n = count(w, e.option) + 1;
         w[usize::from(e.option)] = n;

@@ -1,6 +1,5 @@
-use mathlib.Core.Path.{refl, sym, ◌∙◌}
+use mathlib.Core.Path.{◌≡◌, refl, sym, ◌∙◌}
 use native.Mathlib.Omega.{arith}
-use lib.ListN.{length-set}
 use Rattle.rules.specs.Kinds.{payment, returned_payment}
 use Rattle.receipts.proofs.Tills.{last_option, paid_in}
 use Rattle.receipts.proofs.step.Goals as goal
@@ -13,7 +12,7 @@ bounds-w-from c =
 pub bounds-w-place : goal.bounds-w-place
 bounds-w-place c =
     let t = last_option payment c.args.posted.event c.args.posted.well_formed (sym c.is.ensures ∙ c.if-is.true) in
-    rw length-set (omega (arith, t, c.place.ensures, c.requires.0))
+    omega (arith, t, c.place.ensures)
 
 pub bounds-w-place-then-is-2 : goal.bounds-w-place-then-is-2
 bounds-w-place-then-is-2 c =
@@ -24,4 +23,5 @@ pub returns-then-is : goal.returns-then-is
 returns-then-is c =
     let q = sym c.is.ensures ∙ c.if-is.true in
     let t = last_option payment c.args.posted.event c.args.posted.well_formed q in
-    rw (c.from.ensures, c.place.ensures, c.count-n.ensures) (paid_in c.args.w.now c.args.posted.event _ refl t q)
+    let same : c.unwrap-w.result.now ≡ c.args.w.now = grind arith in
+    rw (c.from.ensures, c.place.ensures, c.count-n.ensures, same) (paid_in c.args.w.now c.args.posted.event _ refl t q)

@@ -16,10 +16,10 @@ returns c =
     let s = state_on a.m.now in
     let due : c.if-watched.due ≡ cond (watched s.collection a.e) (arrears_by s.ledger a.e.day) 0 =
     elim c.if-watched.branch [
-      | then-watched w ↦ rw (sym c.watches-watched.ensures ∙ w.if-watched.true, ← c.from-t.ensures) (w.due-is ∙ w.arrears-due.ensures)
+      | then-watched w ↦ rw (sym c.watches-watched.ensures ∙ w.if-watched.true, ← c.from-t.ensures) (w.due-is ∙ (w.arrears-due.ensures ∙ ap (λ l. arrears_by l c.from-t.result) w.ledger_in.ensures))
       | else-watched w ↦ rw (sym c.watches-watched.ensures ∙ w.if-watched.false) w.due-is
     ] in
-    service_found a.m.now c.requires a.e c.step.new.w c.store_word.new.s c.if-watched.due (search rules)
+    service_found a.m.now c.told-m a.e c.step.new.w c.store_word.new.s c.if-watched.due (search rules)
     due
     c.step.ensures
     (c.store_word.ensures ∙ ap (λ t. t ∷ []) c.from-t.ensures)

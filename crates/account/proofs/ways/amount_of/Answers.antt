@@ -9,6 +9,6 @@ use Rattle.account.proofs.ways.amount_of.Goals as goal
 pub returns-then-is : goal.returns-then-is
 returns-then-is c =
     let e = c.args.e in
-    let sums = c.sums_of-s.ensures ∙ ap sums_of c.ledger.ensures.words in
+    let sums = c.sums_of-s.ensures ∙ ap sums_of c.ledger.ensures in
     rw (c.saturating_add.ensures, c.late_charge-late.ensures, c.saturating_sub.ensures, sums)
     (bill_amount (state_on c.args.account.words.now) e (eqb-true e.kind bill (sym c.is.ensures ∙ c.if-is.true)))

@@ -1,5 +1,6 @@
 use mathlib.Core.Path.{ap, ◌∙◌}
 use mathlib.Core.List.{[], ◌∷◌}
+use Rattle.ledger.specs.Ledger.{arrears_by}
 use Rattle.account.proofs.OwnWays.{lapse_by}
 use borrow.Author.Rules.{rules}
 use Rattle.account.proofs.ways.pass_day.Goals as goal
@@ -7,5 +8,5 @@ use Rattle.account.proofs.ways.pass_day.Goals as goal
 pub returns : goal.returns
 returns c =
     let a = c.args in
-    lapse_by a.m.now c.requires.0 a.e c.requires.1 c.store_word.new.s (c.store_word.ensures ∙ ap (λ t. t ∷ []) c.from-t.ensures)
-    c.lapse.new.w c.arrears-due.result (search rules) (c.arrears-due.ensures ∙ rw c.from-t.ensures) c.lapse.ensures
+    lapse_by a.m.now c.told-m a.e c.requires c.store_word.new.s (c.store_word.ensures ∙ ap (λ t. t ∷ []) c.from-t.ensures)
+    c.lapse.new.w c.arrears-due.result (search rules) (c.arrears-due.ensures ∙ (ap (λ l. arrears_by l c.from-t.result) c.ledger_in.ensures ∙ rw c.from-t.ensures)) c.lapse.ensures

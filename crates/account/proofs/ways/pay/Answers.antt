@@ -1,4 +1,6 @@
+use mathlib.Core.Path.{ap, ◌∙◌}
 use native.Mathlib.Omega.{arith}
+use Rattle.receipts.specs.Receipts.{count_by}
 use Rattle.account.specs.State.{state_on, view}
 use Rattle.account.proofs.OwnWays.{way_is, payment_receipt}
 use Rattle.account.proofs.ways.pay.Goals as goal
@@ -12,5 +14,5 @@ returns c =
     record {
       became = b;
       receipt_is = payment_receipt a.m.now c.pass_day.new.m a.posted.event v c.count.result c.requires.0.fit.words_are a.posted.well_formed
-          c.requires.1 b c.count.ensures;
+          c.requires.1 b (c.count.ensures ∙ ap (λ s. count_by s a.posted.event.option) c.receipts_in.ensures);
     }
