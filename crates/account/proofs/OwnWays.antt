@@ -2,12 +2,12 @@
 use Prim.Native.Nat.{ℕ, ◌+◌, ◌-◌, ◌≤◌, ◌<◌, min}
 use mathlib.Core.Path.{◌≡◌, refl, sym, ap, subst, ◌∙◌}
 use mathlib.Core.Bool.{true, false, cond, ◌||◌, and-true, and-false}
-use mathlib.Core.List.{List, [], ◌∷◌}
+use mathlib.Core.List.{List, []}
 use mathlib.Core.Logic.{◌⊎◌, inl, inr}
 use native.Mathlib.Omega.{arith}
 use native.Mathlib.Nat.{add-zero}
 use lib.Dec.{eqb}
-use lib.ListN.{length, get_or}
+use lib.ListN.{length, get_or, set}
 use borrow.Author.Tests.{eqb-true, ne_eqb, lt-leb}
 use Rattle.basics.specs.Machine.{largest}
 use Rattle.basics.proofs.Cases.{on_eq}
@@ -37,7 +37,7 @@ use Rattle.ledger.proofs.Test.{ledger_room}
 use Rattle.account.specs.State.{State, sizes, account_size, state_of, state_on, view, with_money, with_file, with_service, money_after, file_after, service_after, applied}
 use Rattle.account.specs.Post.{receipt_at}
 use Rattle.account.specs.Looks.{Became, Applied, Free, only_item}
-use Rattle.account.proofs.Steps.{money_by, steps_are, receipt_by}
+use Rattle.account.proofs.Steps.{day_set, money_by, steps_are, receipt_by}
 
 -- ---- what an event that passes has room for
 module _ (m : List ℕ) (e : Event) (f : Free m e) where
@@ -109,26 +109,20 @@ pub way_is : (m a c : List ℕ) (e : Event) (v : View) → e.kind < deposit_aske
 way_is m a c e v l p q = steps_are m a a c e v p (record { words_are = p.words_are; state_is = sym (file_still (state_on a) e l) }) q
 
 -- ---- the day and the notice
-module _ (m : List ℕ) (l : length m ≡ account_size) (e : Event) (k : e.kind < deposit_asked) (ys : List ℕ) (q : ys ≡ e.day ∷ []) where
-  collection_still : part sizes 2 (back sizes 1 ys m) ≡ part sizes 2 m
-  collection_still = ap (λ cs. get_or cs 2 []) (then sizes 1 ys (omega arith) (ap length q) (here sizes m l)).cuts
-
-  ledger_still : part sizes 7 (back sizes 1 ys m) ≡ part sizes 7 m
-  ledger_still = ap (λ cs. get_or cs 7 []) (then sizes 1 ys (omega arith) (ap length q) (here sizes m l)).cuts
-
-  pub lapse_by : (ws : List ℕ) (due : ℕ) → length ws ≡ collection_size
-      → due ≡ arrears_by (ledger_on (part sizes 7 (back sizes 1 ys m))) e.day
-      → collection_on ws ≡ lapsed_by (collection_on (part sizes 2 (back sizes 1 ys m))) due
-      → Became (back sizes 2 ws (back sizes 1 ys m)) (service_after (state_on m) e)
-  lapse_by ws due a d p =
-      let t = then sizes 2 ws (omega arith) a (then sizes 1 ys (omega arith) (ap length q) (here sizes m l)) in
-      let d2 = d ∙ ap (λ w. arrears_by (ledger_on w) e.day) ledger_still in
-      let p2 =
-      p
-      ∙ (ap (λ w. lapsed_by (collection_on w) due) collection_still
-      ∙ (ap (lapsed_by (state_on m).collection) d2
-      ∙ sym (collection_other (state_on m).collection e (arrears_by (state_on m).ledger e.day) (omega (arith, k))))) in
-      record { words_are = t.words_are; state_is = ap state_of t.cuts ∙ (λ i. with_service (state_on m) (get_or (q i) 0 0) (p2 i)) }
+pub lapse_by : (m : List ℕ) → length m ≡ account_size → (e : Event) → e.kind < deposit_asked → (t : ℕ) → t ≡ e.day → (ws : List ℕ) (due : ℕ) → length ws ≡ collection_size
+    → due ≡ arrears_by (ledger_on (part sizes 7 (set m 1 t))) t
+    → collection_on ws ≡ lapsed_by (collection_on (part sizes 2 (set m 1 t))) due
+    → Became (back sizes 2 ws (set m 1 t)) (service_after (state_on m) e)
+lapse_by m l e k t q ws due a d p =
+    let s = day_set t (here sizes m l) in
+    let r = then sizes 2 ws (omega arith) a s in
+    let d2 = d ∙ (ap (λ cs. arrears_by (ledger_on (get_or cs 7 [])) t) s.cuts ∙ ap (arrears_by (state_on m).ledger) q) in
+    let p2 =
+    p
+    ∙ (ap (λ cs. lapsed_by (collection_on (get_or cs 2 [])) due) s.cuts
+    ∙ (ap (lapsed_by (state_on m).collection) d2
+    ∙ sym (collection_other (state_on m).collection e (arrears_by (state_on m).ledger e.day) (omega (arith, k))))) in
+    record { words_are = r.words_are; state_is = ap state_of r.cuts ∙ (λ i. with_service (state_on m) (q i) (p2 i)) }
 
 -- ---- the money
 -- of a payment

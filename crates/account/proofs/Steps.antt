@@ -1,15 +1,16 @@
 -- What the proofs of an accepted event cite: what each step asks, and the account after the parts' spans came back.
 use Prim.Native.Nat.{ℕ}
-use mathlib.Core.Path.{◌≡◌, refl, ap, ◌∙◌}
+use mathlib.Core.Path.{◌≡◌, refl, sym, ap, subst, ◌∙◌}
 use mathlib.Core.Bool.{cond}
 use mathlib.Core.List.{List, [], ◌∷◌}
 use native.Mathlib.Omega.{arith}
 use Rattle.std.specs.Prelude.{Option, min}
 use Rattle.std.specs.Bool.{then_some}
 use Rattle.basics.specs.Machine.{largest}
-use lib.ListN.{length, get_or}
+use lib.ListN.{length, get_or, set}
 use Rattle.basics.proofs.Cases.{on}
-use Rattle.span.proofs.Parts.{part, back, here, then}
+use Rattle.span.proofs.Law.{word_set}
+use Rattle.span.proofs.Parts.{Parts, part, back, here, then}
 use Rattle.rules.specs.declared.Event.{Event}
 use Rattle.rules.specs.declared.View.{View}
 use Rattle.rules.specs.Kinds.{payment, returned_payment, arrangement}
@@ -35,6 +36,10 @@ use Rattle.account.specs.State.{State, sizes, account_size, state_of, state_on, 
 use Rattle.account.specs.Post.{receipt_at}
 use Rattle.account.specs.Looks.{Became, Passing}
 use Rattle.account.proofs.Words.{ringed_on}
+
+-- the word of the day, set: span 1 came back
+pub day_set : (t : ℕ) {m : List ℕ} {cs : List (List ℕ)} → Parts sizes m cs → Parts sizes (set m 1 t) (set cs 1 (t ∷ []))
+day_set t {m} {cs} p = subst (λ k. Parts sizes k (set cs 1 (t ∷ []))) (sym (word_set 1 t m (omega (arith, p.words_are)))) (then sizes 1 (t ∷ []) (omega arith) refl p)
 
 -- ---- an event that passes has room
 module _ (m : List ℕ) (e : Event) (v : View) (item : Option ℕ) (p : Passing m e v item) where
@@ -93,17 +98,17 @@ module _ (m : List ℕ) (l : length m ≡ account_size) (e : Event) where
       }
 
   -- collection and the day
-  pub service_found : (ws ys : List ℕ) (due : ℕ) → length ws ≡ collection_size
+  pub service_found : (ws : List ℕ) (due : ℕ) → length ws ≡ collection_size
       → due ≡ cond (watched (state_on m).collection e) (arrears_by (state_on m).ledger e.day) 0
       → collection_on ws ≡ collection_after (state_on m).collection e due
-      → ys ≡ e.day ∷ []
-      → Became (back sizes 1 ys (back sizes 2 ws m)) (service_after (state_on m) e)
-  service_found ws ys due a d p q =
-      let t = then sizes 1 ys (omega arith) (ap length q) (then sizes 2 ws (omega arith) a (here sizes m l)) in
+      → Became (set (back sizes 2 ws m) 1 e.day) (service_after (state_on m) e)
+  service_found ws due a d p =
+      let s = then sizes 2 ws (omega arith) a (here sizes m l) in
+      let t = day_set e.day s in
       let p2 = p ∙ (ap (collection_after (state_on m).collection e) d ∙ collection_watched (state_on m).collection e (arrears_by (state_on m).ledger e.day)) in
       record {
         words_are = t.words_are;
-        state_is = ap state_of t.cuts ∙ (λ i. with_service (state_on m) (get_or (q i) 0 0) (p2 i));
+        state_is = ap state_of t.cuts ∙ (λ i. with_service (state_on m) e.day (p2 i));
       }
 
 -- ---- the three steps together

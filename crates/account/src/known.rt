@@ -43,7 +43,7 @@ impl<'a> Known<'a> {
     pub fn last(self) -> u64
         ensures { result ≡ (state_on self.entry.words.now).last }
     {
-        span::word(&self.words[LAST..COLLECTION])
+        self.words[LAST]
     }
 
     // One method for each part: a generic one would want the bounds of each span as constants beside the trait.

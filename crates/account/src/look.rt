@@ -90,8 +90,8 @@ fn money_for(account: Known, e: Event) -> Money
     }
 }
 
-// A View is one flat record, as the definitions speak of it; what is read of the debts and of the money is gathered apart, since most kinds
-// look at the money alone.
+// A View is one flat record, as the definitions speak of it. What is read of the debts and of the money is gathered apart: tried as one
+// function with ..View::default(), whose sixteen fields then want an answer by hand.
 fn view_of(service: Service, d: Debts, n: Money) -> View
     ensures { result ≡ view_from service d n }
 {
@@ -151,8 +151,6 @@ fn file_ok(m: &[u64; WORDS]) -> bool
 pub fn ok(m: &[u64; WORDS]) -> bool
     ensures { result ≡ state_ok (state_on m.now) }
 {
-    let layout = span::word(&m[LAYOUT..LAST]);
-    let last = span::word(&m[LAST..COLLECTION]);
     let c = Collection::load(&m[COLLECTION..DEPOSIT]);
-    layout == LAYOUT_NUMBER && last <= FINAL_DAY && c.ok() && file_ok(m)
+    m[LAYOUT] == LAYOUT_NUMBER && m[LAST] <= FINAL_DAY && c.ok() && file_ok(m)
 }

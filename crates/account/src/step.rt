@@ -47,7 +47,7 @@ fn set_service(m: &mut [u64; WORDS], e: Event)
         0
     };
     collection::step(&mut m[COLLECTION..DEPOSIT], e, due);
-    span::store_word(&mut m[LAST..COLLECTION], t);
+    m[LAST] = t;
 }
 
 // The account after an event that passes; says the receipt of a payment, or 0.

@@ -27,7 +27,7 @@ fn pass_day(m: &mut [u64; WORDS], e: Event)
     ensures { Became m.new (service_after (state_on m.old) e) }
 {
     let t = u64::from(e.day);
-    span::store_word(&mut m[LAST..COLLECTION], t);
+    m[LAST] = t;
     if collection::quiet(&m[COLLECTION..DEPOSIT]) {
         return;
     }

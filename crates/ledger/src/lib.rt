@@ -61,6 +61,9 @@ pub struct OpenItem {
     pub unpaid: u64,
 }
 
+// What stands past the last open item: every index has an answer, as C has it in two numbers. The definitions name it too.
+pub const NO_ITEM: OpenItem = OpenItem { day: 0, unpaid: 0 };
+
 // ---- what is read
 // Where item k stands: its day is there, and the sum of all charges up to it follows.
 fn place(k: u64) -> usize
@@ -259,13 +262,13 @@ fn sum_before(w: &[u64; WORDS], i: u64) -> u64
     Entry::at(w, w[CLOSED] + i - 1).upto
 }
 
-// Open item i, from 0 in the order posted; an item of 0 past the last: every index has an answer, as C has it in two numbers.
+// Open item i, from 0 in the order posted.
 pub fn open_item(w: &[u64; WORDS], i: u64) -> OpenItem
     ensures { result ≡ get_or (open_by (ledger_on w.now)) i no_item }
 {
     let closed = w[CLOSED];
     if w[MADE].saturating_sub(closed) <= i {
-        return OpenItem { day: 0, unpaid: 0 };
+        return NO_ITEM;
     }
     let e = Entry::at(w, closed + i);
     let before = sum_before(w, i);

@@ -10,7 +10,7 @@ ghost use Rattle.questions.specs.Questions.{owed_in, held_in, required_in, servi
 
 use account::known::Known;
 pub use days::{arrears, certified, in_force, notice_live};
-use ledger::OpenItem;
+use ledger::{NO_ITEM, OpenItem};
 use rules::Service;
 
 // What is owed, negative where there is credit.
@@ -51,6 +51,5 @@ pub fn open_count(m: &[u64]) -> u64
 pub fn open_item(m: &[u64], i: usize) -> OpenItem
     ensures { result ≡ get_or (open_in m.now) i no_item }
 {
-    let none = OpenItem { day: 0, unpaid: 0 };
-    Known::of(m).map_or(none, |a| ledger::open_item(a.ledger(), i as u64))
+    Known::of(m).map_or(NO_ITEM, |a| ledger::open_item(a.ledger(), i as u64))
 }

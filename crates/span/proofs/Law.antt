@@ -47,6 +47,13 @@ module _ (a k : ℕ) (ys m : List ℕ) (l : length ys ≡ k) (f : a + k ≤ leng
       ∙ drop-drop (k + (b - (a + k))) a m
       ∙ ap (λ i. drop i m) y
 
+-- a word that is set is a span of one that came back
+pub word_set : (a x : ℕ) (m : List ℕ) → a < length m → set m a x ≡ put a 1 (x ∷ []) m
+word_set zero x [] h = absurd (omega arith)
+word_set zero x (y ∷ m) h = refl
+word_set (suc a) x [] h = absurd (omega arith)
+word_set (suc a) x (y ∷ m) h = ap (λ ys. y ∷ ys) (word_set a x m (omega arith))
+
 -- a part that is lent leaves all spans that start past it
 cut_after : (ns : List ℕ) (b a k : ℕ) (ys m : List ℕ) → length ys ≡ k → a + k ≤ length m → a + k ≤ b → cut b ns (put a k ys m) ≡ cut b ns m
 cut_after [] b a k ys m l f h = refl

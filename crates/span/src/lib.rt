@@ -2,7 +2,7 @@
 // account is, and a span of one word.
 #![tactic(auto)]
 
-ghost use Rattle.std.specs.Prelude.{◌≡◌, ℕ, Bool, List, [], ◌∷◌, length, get_or};
+ghost use Rattle.std.specs.Prelude.{◌≡◌, ℕ, Bool, List, length};
 
 // What an account keeps in a span of its own: a value that is read from the words, changed, and written back. The words are lent
 // as a slice with a clause on its length: what memory is after a piece of it was lent as an array is left open by the check.
@@ -44,18 +44,4 @@ pub fn change<P: Part, F: FnOnce(P) -> P>(w: &mut [u64], f: F)
 {
     let before = P::load(w);
     f(before).store(w);
-}
-
-pub fn word(s: &[u64]) -> u64
-    requires { length s.now ≡ 1 }
-    ensures { result ≡ get_or s.now 0 0 }
-{
-    s[0]
-}
-
-pub fn store_word(s: &mut [u64], x: u64)
-    requires { length s.old ≡ 1 }
-    ensures { s.new ≡ x ∷ [] }
-{
-    s[0] = x;
 }

@@ -1,6 +1,5 @@
 use mathlib.Core.Path.{◌≡◌, sym, ap, ◌∙◌}
 use mathlib.Core.Bool.{cond}
-use mathlib.Core.List.{[], ◌∷◌}
 use Rattle.collection.specs.Collection.{watched}
 use Rattle.ledger.specs.Ledger.{arrears_by}
 use Rattle.account.specs.State.{state_on}
@@ -19,7 +18,4 @@ returns c =
       | then-watched w ↦ rw (sym c.watches-watched.ensures ∙ w.if-watched.true, ← c.from-t.ensures) (w.due-is ∙ (w.arrears-due.ensures ∙ ap (λ l. arrears_by l c.from-t.result) w.ledger_in.ensures))
       | else-watched w ↦ rw (sym c.watches-watched.ensures ∙ w.if-watched.false) w.due-is
     ] in
-    service_found a.m.now c.told-m a.e c.step.new.w c.store_word.new.s c.if-watched.due (search rules)
-    due
-    c.step.ensures
-    (c.store_word.ensures ∙ ap (λ t. t ∷ []) c.from-t.ensures)
+    rw c.from-t.ensures (service_found a.m.now c.told-m a.e c.step.new.w c.if-watched.due (search rules) due c.step.ensures)
