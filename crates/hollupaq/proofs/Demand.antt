@@ -23,7 +23,7 @@ use Rattle.account.specs.Post.{refusal_at, answer_at, answer_to, words_after}
 use Rattle.account.specs.Many.{account_at, has_account, answer_at_of}
 use Rattle.account.proofs.Exits.{passed_fit}
 use Rattle.claim.specs.Run.{run, answers, LeftBy}
-use Rattle.claim.proofs.Demand.{demand_3}
+use Rattle.claim.proofs.Demand.{demand_3, as_run}
 use Rattle.hollupaq.specs.Library.{answer_word, Keeps, Begun, KeptClaim}
 use Rattle.hollupaq.proofs.Told.{told_word, said_word}
 
@@ -56,18 +56,9 @@ pub not_begun : (m : List ℕ) → (length m ≡ account_size → ⊥) → Begun
 not_begun m l = let q = ne_eqb (length m) account_size l in record { answer_is = rw q; words_are = rw q }
 
 -- ---- DEMAND 3
-as_run : (m : List ℕ) (es : List Event) (said : List ℕ) (z : List ℕ) → LeftBy Keeps m es said z → (z ≡ run m es) × (said ≡ map answer_word (answers m es))
-as_run m [] [] z h = (h, refl)
-as_run m [] (s ∷ said) z h = absurd h
-as_run m (e ∷ es) [] z h = absurd h
-as_run m (e ∷ es) (s ∷ said) z h =
-    let p = h.1.0.words_are in
-    let t = as_run h.0 es said z h.1.1 in
-    (t.0 ∙ ap (λ c. run c es) p, rw (h.1.0.answer_is, t.1, p))
-
 pub demand_3_kept : (es : List Event) (said : List ℕ) (z : List ℕ) → KeptClaim es said z
 demand_3_kept es said z left =
-    let t = as_run fresh_words es said z left in
+    let t = as_run answer_word Keeps (λ m e s k v. (v.answer_is, v.words_are)) fresh_words es said z left in
     let d = demand_3 es in
     let h = accepted es in
     let small : (u : ℕ) → arrears h u ≤ limit = λ u. omega (arith, arrears_charged h u, charged_limit h (accepted_lawful es)) in
