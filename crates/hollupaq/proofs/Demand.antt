@@ -72,7 +72,7 @@ demand_3_kept es said z left =
       certificated = λ u. rw t.0 (said_word _ _ _ (d.certificated u));
     }
 
--- every list can be posted so
+-- every list can be posted so. One lemma for this and `any_list` of claim, as `as_run` is one, was tried: it came out longer than the two
 pub any_list_kept : (m : List ℕ) (es : List Event) → LeftBy Keeps m es (map answer_word (answers m es)) (run m es)
 any_list_kept m [] = refl
 any_list_kept m (e ∷ es) = (words_after m e, (record { answer_is = refl; words_are = refl }, any_list_kept (words_after m e) es))
