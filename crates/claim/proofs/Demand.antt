@@ -2,10 +2,11 @@
 use Prim.Native.Nat.{ℕ, ◌+◌}
 use mathlib.Core.Path.{◌≡◌, refl, ap, ◌∙◌}
 use mathlib.Core.Bool.{Bool, true, false, cond, true≢false}
-use mathlib.Core.List.{List, [], ◌∷◌}
+use mathlib.Core.List.{List, [], ◌∷◌, map}
 use native.Mathlib.Omega.{arith}
 use lib.Dec.{eqb}
 use lib.ListN.{length}
+use Rattle.std.proofs.lemmas.List.{map-id}
 use Rattle.basics.proofs.Cases.{on}
 use Rattle.rules.specs.declared.Event.{Event}
 use Rattle.std.proofs.Common.{Ok, Err}
@@ -74,20 +75,22 @@ demand_3 es =
     (claim_of es (accepted es) (accepted_lawful es) (refused_count [] es ∙ omega arith))
 
 -- ---- the same of memory that is lent for each posting
--- what is left and answered is what the same list gives, run
-pub as_run : (m : List ℕ) (es : List Event) (said : List Answer) (z : List ℕ) → LeftBy Leaves m es said z → (z ≡ run m es) × (said ≡ answers m es)
-as_run m [] [] z h = (h, refl)
-as_run m [] (s ∷ said) z h = absurd h
-as_run m (e ∷ es) [] z h = absurd h
-as_run m (e ∷ es) (s ∷ said) z h =
-    let p = h.1.0.words_are in
-    let t = as_run h.0 es said z h.1.1 in
-    (t.0 ∙ ap (λ c. run c es) p, rw (h.1.0.answer_is, t.1, p))
+-- each posting is as a contract R says it, which tells the answer by a word: what is left and told is what the same list gives, run
+module _ {S : Type 0} (word : Answer → S) (R : List ℕ → Event → S → List ℕ → Type 0)
+    (parts : (m : List ℕ) (e : Event) (s : S) (k : List ℕ) → R m e s k → (s ≡ word (answer_to m e)) × (k ≡ words_after m e)) where
+  pub as_run : (m : List ℕ) (es : List Event) (said : List S) (z : List ℕ) → LeftBy R m es said z → (z ≡ run m es) × (said ≡ map word (answers m es))
+  as_run m [] [] z h = (h, refl)
+  as_run m [] (s ∷ said) z h = absurd h
+  as_run m (e ∷ es) [] z h = absurd h
+  as_run m (e ∷ es) (s ∷ said) z h =
+      let p = parts m e s h.0 h.1.0 in
+      let t = as_run h.0 es said z h.1.1 in
+      (t.0 ∙ ap (λ c. run c es) p.1, rw (p.0, t.1, p.1))
 
 pub demand_3_left : (es : List Event) (said : List Answer) (z : List ℕ) → LeftClaim es said z
 demand_3_left es said z h =
-    let t = as_run fresh_words es said z h in
-    rw (t.0, t.1) (demand_3 es)
+    let t = as_run (λ a. a) Leaves (λ m e s k v. (v.answer_is, v.words_are)) fresh_words es said z h in
+    rw (t.0, t.1, map-id (answers fresh_words es)) (demand_3 es)
 
 -- every list can be posted so
 pub any_list : (m : List ℕ) (es : List Event) → LeftBy Leaves m es (answers m es) (run m es)

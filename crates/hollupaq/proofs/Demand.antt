@@ -23,7 +23,7 @@ use Rattle.account.specs.Post.{refusal_at, answer_at, answer_to, words_after}
 use Rattle.account.specs.Many.{account_at, has_account, answer_at_of}
 use Rattle.account.proofs.Exits.{passed_fit}
 use Rattle.claim.specs.Run.{run, answers, LeftBy}
-use Rattle.claim.proofs.Demand.{demand_3}
+use Rattle.claim.proofs.Demand.{demand_3, as_run}
 use Rattle.hollupaq.specs.Library.{answer_word, Keeps, Begun, KeptClaim}
 use Rattle.hollupaq.proofs.Told.{told_word, said_word}
 
@@ -56,18 +56,9 @@ pub not_begun : (m : List ℕ) → (length m ≡ account_size → ⊥) → Begun
 not_begun m l = let q = ne_eqb (length m) account_size l in record { answer_is = rw q; words_are = rw q }
 
 -- ---- DEMAND 3
-as_run : (m : List ℕ) (es : List Event) (said : List ℕ) (z : List ℕ) → LeftBy Keeps m es said z → (z ≡ run m es) × (said ≡ map answer_word (answers m es))
-as_run m [] [] z h = (h, refl)
-as_run m [] (s ∷ said) z h = absurd h
-as_run m (e ∷ es) [] z h = absurd h
-as_run m (e ∷ es) (s ∷ said) z h =
-    let p = h.1.0.words_are in
-    let t = as_run h.0 es said z h.1.1 in
-    (t.0 ∙ ap (λ c. run c es) p, rw (h.1.0.answer_is, t.1, p))
-
 pub demand_3_kept : (es : List Event) (said : List ℕ) (z : List ℕ) → KeptClaim es said z
 demand_3_kept es said z left =
-    let t = as_run fresh_words es said z left in
+    let t = as_run answer_word Keeps (λ m e s k v. (v.answer_is, v.words_are)) fresh_words es said z left in
     let d = demand_3 es in
     let h = accepted es in
     let small : (u : ℕ) → arrears h u ≤ limit = λ u. omega (arith, arrears_charged h u, charged_limit h (accepted_lawful es)) in
@@ -81,7 +72,7 @@ demand_3_kept es said z left =
       certificated = λ u. rw t.0 (said_word _ _ _ (d.certificated u));
     }
 
--- every list can be posted so
+-- every list can be posted so. One lemma for this and `any_list` of claim, as `as_run` is one, was tried: it came out longer than the two
 pub any_list_kept : (m : List ℕ) (es : List Event) → LeftBy Keeps m es (map answer_word (answers m es)) (run m es)
 any_list_kept m [] = refl
 any_list_kept m (e ∷ es) = (words_after m e, (record { answer_is = refl; words_are = refl }, any_list_kept (words_after m e) es))

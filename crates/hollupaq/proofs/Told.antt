@@ -24,7 +24,7 @@ use Rattle.questions.specs.Questions.{Tells, Says}
 use Rattle.hollupaq.specs.Library.{told, told_yes, answer_word, amount_word, truth_word}
 use Rattle.hollupaq.specs.Books.{Stored}
 
-pub told_number : (n v : ℕ) → (n ≡ 0 → ⊥) → n ≡ told n v
+told_number : (n v : ℕ) → (n ≡ 0 → ⊥) → n ≡ told n v
 told_number zero v h = absurd (h refl)
 told_number (suc n) v h = refl
 
@@ -35,7 +35,7 @@ pub not_told : (n v : ℕ) → false ≡ eqb n 0 → n ≡ told n v
 not_told n v q = told_number n v (λ z. true≢false (sym (rw z at q)))
 
 -- ---- an answer by a number of the table
-pub told_answered : (n x : ℕ) → n < length refusals → (n ≡ 0 → x ≤ most_amount) → amount_word (answered n x) ≡ told n x
+told_answered : (n x : ℕ) → n < length refusals → (n ≡ 0 → x ≤ most_amount) → amount_word (answered n x) ≡ told n x
 told_answered n x h small =
     on_eq n 0
     (λ q z. let s = small z in rw q (omega (arith, told_value n x x z refl)))

@@ -1,2 +1,3 @@
 pub mod Allowed
 pub mod Blocks
+pub mod Classes

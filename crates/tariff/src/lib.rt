@@ -3,20 +3,22 @@
 // what is worked out here is posted as any bill is.
 #![tactic(auto)]
 
+mod classes;
+
 ghost use Rattle.std.specs.Prelude.{◌≡◌, ◌≤◌, ◌<◌, get_or, IfOk, IfErr};
 ghost use Rattle.basics.specs.Machine.{largest};
 ghost use Rattle.rules.specs.Refusals.{refusal_of};
+ghost use Rattle.rules.specs.Limits.{most_usage};
 ghost use Rattle.rules.specs.Tariff.{lines_from, energy_by, row_of, basic_of, cents_of, bill_refusal, bill_of, bill_lines, no_line};
-ghost use Rattle.tariff.specs.Allowed.{Allowed};
 ghost use Rattle.tariff.specs.Blocks.{start_of};
+ghost use Rattle.tariff.specs.Classes.{class_number};
 
-use rules::limits::{LAST_CLASS, MOST_USAGE};
+use classes::Class;
+use rules::limits::MOST_USAGE;
 use rules::refusals::Refusal;
 use rules::{Block, Line};
 
-// How many schedules there are, one for each class, and how many blocks each has.
-const CLASSES: usize = LAST_CLASS as usize;
-
+// How many blocks each schedule has.
 const BLOCKS: usize = 3;
 
 // What a class pays: its basic charge in cents, and its blocks.
@@ -26,69 +28,70 @@ struct Schedule {
     blocks: [Block; BLOCKS],
 }
 
-// The schedules, by class: residential, single phase, three phase. A class with one price has it in every block. Limits stand beside
-// prices in each, as the source has them.
-const SCHEDULES: [Schedule; CLASSES] = [
-    Schedule {
-        basic_charge: 1_031,
-        blocks: [
-            Block {
-                limit: 15_000,
-                price: 731,
-            },
-            Block {
-                limit: 50_000,
-                price: 731,
-            },
-            Block {
-                limit: MOST_USAGE,
-                price: 731,
-            },
-        ],
-    },
-    Schedule {
-        basic_charge: 1_229,
-        blocks: [
-            Block {
-                limit: 15_000,
-                price: 767,
-            },
-            Block {
-                limit: 50_000,
-                price: 767,
-            },
-            Block {
-                limit: MOST_USAGE,
-                price: 767,
-            },
-        ],
-    },
-    Schedule {
-        basic_charge: 2_218,
-        blocks: [
-            Block {
-                limit: 15_000,
-                price: 767,
-            },
-            Block {
-                limit: 50_000,
-                price: 647,
-            },
-            Block {
-                limit: MOST_USAGE,
-                price: 467,
-            },
-        ],
-    },
-];
+// The schedules of the three classes. A class with one price has it in every block. Limits stand beside prices in each, as the source
+// has them.
+const RESIDENTIAL: Schedule = Schedule {
+    basic_charge: 1_031,
+    blocks: [
+        Block {
+            limit: 15_000,
+            price: 731,
+        },
+        Block {
+            limit: 50_000,
+            price: 731,
+        },
+        Block {
+            limit: MOST_USAGE,
+            price: 731,
+        },
+    ],
+};
 
-// What stands past the last line: every index has an answer, and C asks for the two numbers by themselves.
+const SINGLE_PHASE: Schedule = Schedule {
+    basic_charge: 1_229,
+    blocks: [
+        Block {
+            limit: 15_000,
+            price: 767,
+        },
+        Block {
+            limit: 50_000,
+            price: 767,
+        },
+        Block {
+            limit: MOST_USAGE,
+            price: 767,
+        },
+    ],
+};
+
+const THREE_PHASE: Schedule = Schedule {
+    basic_charge: 2_218,
+    blocks: [
+        Block {
+            limit: 15_000,
+            price: 767,
+        },
+        Block {
+            limit: 50_000,
+            price: 647,
+        },
+        Block {
+            limit: MOST_USAGE,
+            price: 467,
+        },
+    ],
+};
+
+// What stands past the last line: every index has an answer, and C asks for the two numbers by themselves. No Default of Line: a line of
+// zeros means something only here, and the definitions name it.
 const NO_LINE: Line = Line { used: 0, price: 0 };
 
 impl Schedule {
     // Where block i begins: the first at 0, each other one at the limit of the one before it.
     fn start(self, i: usize) -> u64
-        requires { i < 3 }
+        requires { i < BLOCKS }
         ensures { result ≡ start_of self.blocks i }
     {
         if i == 0 { 0 } else { self.blocks[i - 1].limit }
@@ -96,7 +99,7 @@ impl Schedule {
 
     // The line of block i: what of the usage lies in it, at its price.
     fn line(self, usage: u64, i: usize) -> Line
-        requires { i < 3 }
+        requires { i < BLOCKS }
         ensures { result ≡ get_or (lines_from 0 self.blocks usage) i no_line }
     {
         let Block { limit, price } = self.blocks[i];
@@ -126,36 +129,39 @@ impl Schedule {
 // A class and a usage that a bill is worked out for.
 #[derive(Clone, Copy)]
 struct Metered {
-    class: u8,
+    class: Class,
     usage: u64,
-    ghost allowed: { Allowed class usage },
+    ghost usage_in_range: { usage ≤ most_usage },
 }
 
 impl Metered {
     // Those of a class and a usage, if they are not refused.
     fn of(class: u8, usage: u64) -> Result<Metered, Refusal>
-        ensures ok { IfOk result (λ m. (m.class ≡ class) × (m.usage ≡ usage)) }
+        ensures ok { IfOk result (λ m. (class_number m.class ≡ class) × (m.usage ≡ usage)) }
         ensures err { IfErr result (λ r. (r ≡ refusal_of (bill_refusal class usage)) × (0 < bill_refusal class usage)) }
     {
-        if (1..=LAST_CLASS).contains(&class) && usage <= MOST_USAGE {
-            Ok(Metered { class, usage })
-        } else {
-            Err(Refusal::NoTariff)
+        match Class::try_from(class) {
+            Ok(class) if usage <= MOST_USAGE => Ok(Metered { class, usage }),
+            _ => Err(Refusal::NoTariff),
         }
     }
 
     // The schedule of its class.
     fn schedule(self) -> Schedule
-        ensures basic_charge { result.basic_charge ≡ basic_of self.class }
-        ensures blocks { result.blocks ≡ row_of self.class }
+        ensures basic_charge { result.basic_charge ≡ basic_of (class_number self.class) }
+        ensures blocks { result.blocks ≡ row_of (class_number self.class) }
     {
-        SCHEDULES[usize::from(self.class - 1)]
+        match self.class {
+            Class::Residential => RESIDENTIAL,
+            Class::SinglePhase => SINGLE_PHASE,
+            Class::ThreePhase => THREE_PHASE,
+        }
     }
 
     // Its cents: the basic charge, and the energy sum in whole cents, half a cent up.
     #[tactic(auto, unfolding(rules::specs::Tariff::cents_of))]
     fn cents(self) -> u64
-        ensures { result ≡ cents_of self.class self.usage }
+        ensures { result ≡ cents_of (class_number self.class) self.usage }
     {
         let s = self.schedule();
         s.basic_charge + (s.energy(self.usage) + 50) / 100
@@ -169,7 +175,8 @@ pub fn bill(class: u8, usage: u64) -> Result<u64, Refusal>
     Ok(Metered::of(class, usage)?.cents())
 }
 
-// Line i of that bill, counted from 0, of a class and a usage as C has them too: a line for each block. Past the last, and where the bill is refused, one of no kilowatt-hours.
+// Line i of that bill, counted from 0, of a class and a usage as C has them too: a line for each block. Past the last, and where the
+// bill is refused, one of no kilowatt-hours.
 pub fn bill_line(class: u8, usage: u64, i: usize) -> Line
     ensures { result ≡ get_or (bill_lines class usage) i no_line }
 {
