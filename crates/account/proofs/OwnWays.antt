@@ -2,11 +2,11 @@
 use Prim.Native.Nat.{ℕ, ◌+◌, ◌-◌, ◌≤◌, ◌<◌, min}
 use mathlib.Core.Path.{◌≡◌, refl, sym, ap, subst, ◌∙◌}
 use mathlib.Core.Bool.{true, false, cond, ◌||◌, and-true, and-false}
-use mathlib.Core.List.{List, []}
+use mathlib.Core.List.{List, [], ◌∷◌}
 use mathlib.Core.Logic.{◌⊎◌, inl, inr}
 use native.Mathlib.Omega.{arith}
 use native.Mathlib.Nat.{add-zero}
-use lib.Dec.{eqb}
+use lib.Dec.{eqb, leb, ltb}
 use lib.ListN.{length, get_or, set}
 use borrow.Author.Tests.{eqb-true, ne_eqb, lt-leb}
 use Rattle.basics.specs.Machine.{largest}
@@ -14,6 +14,7 @@ use Rattle.basics.proofs.Cases.{on_eq}
 use Rattle.span.proofs.Parts.{part, back, here, then}
 use Rattle.rules.specs.declared.Event.{Event}
 use Rattle.rules.specs.declared.View.{View}
+use Rattle.rules.specs.Limits.{limit, most_open}
 use Rattle.rules.specs.Kinds.{bill, payment, returned_payment, fee, deposit_asked, certificate, approval, arrangement, final_notice, disconnection, closing}
 use Rattle.rules.specs.History.{is}
 use Rattle.rules.specs.Service.{is_closed}
@@ -24,7 +25,8 @@ use Rattle.rules.proofs.Passed.{allowed}
 use Rattle.rules.proofs.Room.{Room, room}
 use Rattle.table.specs.ByKind.{from_row5, item_rows, credit_rows}
 use Rattle.table.proofs.ByKind.{of_item}
-use Rattle.collection.specs.Collection.{collection_size, collection_on, service_by, lapsed_by}
+use Rattle.collection.specs.declared.Collection.{Collection}
+use Rattle.collection.specs.Collection.{collection_size, collection_on, service_by, lapsed_by, collection_after}
 use Rattle.collection.proofs.Others.{collection_other}
 use Rattle.deposit.specs.Deposit.{concerns}
 use Rattle.deposit.proofs.Others.{deposit_other}
@@ -70,12 +72,25 @@ unfolding refusal_by from_row5
 after_row4 v e (inl z) = simp (z, and-true)
 after_row4 v e (inr z) = simp (z, and-true)
 
+closed_word : (n : ℕ) → leb 2 n ≡ is_closed (service_by n)
+closed_word n = grind arith
+
+within_largest : (a b : ℕ) → ltb limit (min (a + b) largest) ≡ ltb limit (a + b)
+within_largest a b = grind arith
+
 pub item_row : (s : State) (e : Event) (n : ℕ) → only_item e ≡ true → n ≡ min (charge_of (view s e) e) largest
     → cond (is_closed (service_by s.collection.service)) 4 (item_rows (s.ledger.made - s.ledger.closed) s.ledger.charged n) ≡ refusal_by (view s e) e
 unfolding view
 item_row s e n o w =
     ap (λ r. cond (is_closed (service_by s.collection.service)) 4 r) (of_item (view s e) e n w (either e o))
     ∙ after_row4 (view s e) e (either e o)
+
+-- the same in numbers alone, for the reader
+pub item_rows_lem : (s : State) (e : Event) (n : ℕ) → only_item e ≡ true → n ≡ min (charge_of (view s e) e) largest
+    → cond (leb 2 s.collection.service) 4
+    (cond (leb most_open (s.ledger.made - s.ledger.closed)) 18 (cond (ltb limit (min (s.ledger.charged + n) largest)) 19 0)) ≡ refusal_by (view s e) e
+item_rows_lem s e n o w =
+    rw (closed_word s.collection.service, within_largest s.ledger.charged n) (item_row s e n o w)
 
 -- ---- the amount of the item
 pub bill_amount : (s : State) (e : Event) → e.kind ≡ bill → min (e.amount + late_charge (s.ledger.charged - credits_by s.ledger)) largest
@@ -109,6 +124,18 @@ pub way_is : (m a c : List ℕ) (e : Event) (v : View) → e.kind < deposit_aske
 way_is m a c e v l p q = steps_are m a a c e v p (record { words_are = p.words_are; state_is = sym (file_still (state_on a) e l) }) q
 
 -- ---- the day and the notice
+quiet_same : (c : Collection) (e : Event) (owing : ℕ) → e.kind < deposit_asked → c.notice.live ≡ 0 → c ≡ collection_after c e owing
+quiet_same c e owing k n = grind (arith, collection_other c e owing (omega arith))
+
+-- where no notice lives the day is all that changes; `pass_day` promises the same of what it leaves
+pub quiet_by_lem : (m : List ℕ) → length m ≡ account_size → (e : Event) → e.kind < deposit_asked → (ys : List ℕ) → ys ≡ e.day ∷ []
+    → eqb (collection_on (part sizes 2 (back sizes 1 ys m))).notice.live 0 ≡ true → Became (back sizes 1 ys m) (service_after (state_on m) e)
+quiet_by_lem m l e k ys q n =
+    let t = then sizes 1 ys (omega arith) (ap length q) (here sizes m l) in
+    let none : (state_on m).collection.notice.live ≡ 0 = eqb-true _ 0 (sym (ap (λ cs. eqb (collection_on (get_or cs 2 [])).notice.live 0) t.cuts) ∙ n) in
+    let same = quiet_same (state_on m).collection e (arrears_by (state_on m).ledger e.day) k none in
+    record { words_are = t.words_are; state_is = ap state_of t.cuts ∙ (λ i. with_service (state_on m) (get_or (q i) 0 0) (same i)) }
+
 pub lapse_by : (m : List ℕ) → length m ≡ account_size → (e : Event) → e.kind < deposit_asked → (t : ℕ) → t ≡ e.day → (ws : List ℕ) (due : ℕ) → length ws ≡ collection_size
     → due ≡ arrears_by (ledger_on (part sizes 7 (set m 1 t))) t
     → collection_on ws ≡ lapsed_by (collection_on (part sizes 2 (set m 1 t))) due

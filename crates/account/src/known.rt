@@ -25,7 +25,7 @@ pub struct Known<'a> {
 }
 
 impl<'a> Known<'a> {
-    // By one test of the memory.
+    // The account that memory is, by one test of it.
     #[tactic(auto, using(crate::proofs::Exits::passed_fit))]
     pub fn of(m: &'a [u64]) -> Result<Known<'a>, Refusal>
         ensures { MatchResult result

@@ -31,8 +31,8 @@ pub const LEDGER: usize = RECEIPTS + receipts::WORDS;
 // how many words an account has
 pub const WORDS: usize = LEDGER + ledger::WORDS;
 
-// The number of this layout: a million and two, more than any day, with which an account once began. One that is laid out
-// otherwise has another.
+// The number of this layout: a million and two. An account once began with a day, and no day is so large. One that is laid out otherwise
+// has another number.
 pub const LAYOUT_NUMBER: u64 = 1_000_002;
 
 // The words of the two parts that are read where they lie, with their length in the type.

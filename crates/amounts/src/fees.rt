@@ -10,7 +10,8 @@ use rules::kinds::Kind;
 // hours, reconnection after hours.
 const FEES: [u64; 7] = [7_500, 15_000, 3_000, 1_500, 2_500, 2_000, 7_500];
 
-// The fees that a kind brings of itself. A fee is a number and no enum: the option of an event names it.
+// The fees that a kind brings of itself. A fee is a number, as the option of an event names it: an enum would list seven names and seven
+// numbers beside the seven amounts.
 const NOTICE_FEE: u64 = 4;
 
 const RETURNED_CHECK: u64 = 5;

@@ -62,14 +62,12 @@ impl Arrangement {
         requires { ArrangementFit self }
         ensures { result ≡ in_force_by self t }
     {
-        let n = self.parts;
-        if t < self.day + PART_DAYS * n {
-            let q = (self.debt + (n - 1)) / n;
-            let j = t.saturating_sub(self.day) / PART_DAYS;
-            self.debt.min(q * j) + self.returned <= self.paid
-        } else {
-            false
+        if self.day + PART_DAYS * self.parts <= t {
+            return false;
         }
+        let instalment = self.debt.div_ceil(self.parts);
+        let fallen_due = t.saturating_sub(self.day) / PART_DAYS;
+        self.debt.min(instalment * fallen_due) + self.returned <= self.paid
     }
 }
 
@@ -104,20 +102,22 @@ impl Part for Arrangement {
 
     // At most six parts, no day where there is none, and sums within the limit.
     fn ok(self) -> bool {
-        let n = self.parts;
-        n <= u64::from(MOST_PARTS)
-            && self.day <= FINAL_DAY * n
+        self.parts <= u64::from(MOST_PARTS)
+            && self.day <= FINAL_DAY * self.parts
             && self.debt <= LIMIT
             && self.paid <= LIMIT
             && self.returned <= LIMIT
     }
 }
 
-// An accepted event, in place, with the arrears and the payment as `after` takes them. Of a payment, which is common, one word
+// An accepted event, in place, with the arrears and the payment as `after` takes them. That the sums fit is a clause here and there: it
+// follows from the whole history, and not from the step, so that no type could keep it. Of a payment, which is common, one word
 // changes: by `change` a book misses the bar of speed (account/src/ways.rt). Kinds that do not concern the part touch nothing.
 // The words are lent as every part's (`span::Part`).
 pub fn step(w: &mut [u64], posted: InRange, arrears: u64, payment: u64)
-    requires { (length w.old ≡ arrangement_size) × ArrangementFit (arrangement_on w.old) × (cond (is returned_payment posted.event) payment 0 ≤ limit) }
+    requires size { length w.old ≡ arrangement_size }
+    requires fit { ArrangementFit (arrangement_on w.old) }
+    requires payment_bound { cond (is returned_payment posted.event) payment 0 ≤ limit }
     ensures { arrangement_on w.new ≡ arrangement_after (arrangement_on w.old) posted.event arrears payment }
 {
     let e = posted.event;

@@ -1,6 +1,6 @@
 // Collection, in its own words of an account's memory: the service, the newest final notice, and the calls that a
-// disconnection may ask for. Each function takes the slice that an account lends, with its length as a clause: made an array at
-// each call it would be no plainer.
+// disconnection may ask for. What takes the words takes the slice that an account lends, with its length as a clause: made an array
+// at each call it would be no plainer.
 #![tactic(auto)]
 
 ghost use Rattle.std.specs.Prelude.{◌≡◌, cond, ◌+◌, eqb, length};
@@ -24,7 +24,7 @@ const OFF: u64 = Service::Off as u64;
 
 const CLOSED: u64 = Service::Closed as u64;
 
-// From the day after a call to the last day on which it counts.
+// How many days from the day after a call to the last day on which it counts.
 const CALLED_FOR: u64 = CALL_DAYS - 1;
 
 // The newest final notice, and 1 while it lives on: no disconnection used it up and no event made it lapse. The mark and the

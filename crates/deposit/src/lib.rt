@@ -12,11 +12,12 @@ use rules::limits::{FINAL_DAY, MOST_DEPOSIT, YEAR};
 use rules::{Event, InRange};
 use span::Part;
 
-// From the day after an event to the last of the 365 days in which it bars a return.
+// How many days from the day after an event to the last of the 365 days in which it bars a return.
 const BARS_FOR: u64 = YEAR - 2;
 
 // The days after the three newest final notices, newest first, and the day after the newest disconnection; 0 for none: all are
-// words of memory, whose layout is fixed. A third notice within the year is one too many, so older ones are never asked for.
+// words of memory, whose layout is fixed. A third notice within the year is one too many, so older ones are never asked for. Three
+// fields and no array: a notice moves each to the next, and only the third is asked for.
 #[derive(Clone, Copy)]
 pub struct Conduct {
     pub first: u64,

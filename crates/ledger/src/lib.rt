@@ -1,8 +1,8 @@
 // The ledger of an account, in its own words of the account's memory: what was charged, credited and paid out, and the items
 // that are open. Item k, counted from 0 over all charges, stands at place k mod 64 with its day and the sum of the charges up to
 // it (document 01: C_k). These sums rise, so what is paid is always the oldest: `closed` counts it, and no place changes.
-// What is read is defined for any words, so that the test need not look through the places. No `Part`: a step changes a few
-// words in place.
+// What is read, but for what is owed, is defined for any words, so that the test need not look through the places. No `Part`: a step
+// changes a few words in place.
 #![tactic(auto)]
 
 ghost use Rattle.std.specs.Prelude.{◌≡◌, ◌+◌, ◌-◌, ◌≤◌, ◌<◌, min, is_some, unwrap_or, length, get_or};
@@ -196,7 +196,8 @@ fn pay_out(w: &mut [u64; WORDS], amount: u64)
 }
 
 // The step of an accepted event: the amount of the item that it adds, if it adds one, and what it credits; a credit of 0 moves
-// nothing, so that it is none. An event does one thing at most, and one that does none touches no word.
+// nothing, so that it is none. An event does one thing at most, and one that does none touches no word. No enum of the three: the amounts
+// come from the table, the View and the event, so that it would be made by these same ifs a call higher, to be opened here.
 #[tactic(auto, using(crate::proofs::ByKind::on_charge, crate::proofs::ByKind::on_credit, crate::proofs::ByKind::on_payout, crate::proofs::ByKind::on_other))]
 pub fn step(w: &mut [u64], e: Event, item: Option<u64>, credit: u64)
     requires w_len { length w.old ≡ ledger_size }

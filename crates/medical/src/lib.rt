@@ -11,7 +11,7 @@ use rules::limits::{APPROVAL_DAYS, CERTIFICATE_DAYS, FINAL_DAY};
 use rules::{Event, InRange};
 use span::Part;
 
-// The last day, 73,048, with the longest certificate and the longest approval.
+// The last day with the longest certificate, and with the longest approval.
 const LAST_CERTIFIED: u64 = FINAL_DAY + CERTIFICATE_DAYS;
 
 const LAST_APPROVED: u64 = FINAL_DAY + APPROVAL_DAYS;

@@ -1,8 +1,7 @@
 // Receipts, as an account keeps them in 85 words of its memory: how many payments each of the five tills has taken, and the amounts of
 // the newest 16 of each. The payment of a till's receipt r stands at place r mod 16 of the till's own 16: a payment takes the place of the
-// one 16 before it. 0, which no payment is, where it was returned or there is none: the layout of memory is fixed, so what is read stays
-// that word. No `Part`: a step changes a word or two in place. Each function takes the slice that an account lends, with its length as a
-// clause: made an array at each call it would be no plainer.
+// one 16 before it. 0, which no payment is, stands where it was returned or there is none: the layout of memory is fixed, so what is read
+// stays that word. No `Part`: a step changes a word or two in place.
 #![tactic(auto)]
 
 ghost use Rattle.std.specs.Prelude.{◌≡◌, cond, ◌+◌, length};
@@ -70,7 +69,8 @@ pub fn ok(w: &[u64; WORDS]) -> bool
 // ---- its step
 // An accepted event, in place: of a payment two words change, of a returned one one; no other kind touches anything.
 pub fn step(w: &mut [u64], posted: InRange)
-    requires { (length w.old ≡ receipts_size) × ReceiptsFit (receipts_on w.old) }
+    requires size { length w.old ≡ receipts_size }
+    requires fit { ReceiptsFit (receipts_on w.old) }
     ensures { receipts_on w.new ≡ receipts_after (receipts_on w.old) posted.event }
 {
     let e = posted.event;

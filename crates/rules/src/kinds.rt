@@ -23,12 +23,12 @@ pub enum Kind {
     Closing = 16,
 }
 
-// A number that is no kind's.
+// A number that is no kind's. Nothing prints it: what is refused is told by a number of the table.
 #[derive(Clone, Copy, Debug, PartialEq, Eq)]
 pub struct UnknownKind(pub u8);
 
 impl Kind {
-    // The papers' word for it.
+    // The papers' word for it. Not `From`: u64::from(u8::from(kind)) would be no plainer where it is told.
     pub fn number(self) -> u8
         ensures { result ≡ kind_number self }
     {

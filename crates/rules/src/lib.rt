@@ -34,7 +34,8 @@ pub struct InRange {
     ghost well_formed: { WellFormed event },
 }
 
-// The ranges of an event's option and amount, both ends included, as the definitions have them: a range of the library is none of theirs.
+// The ranges of an event's option and amount, both ends included. Four numbers, since the definitions compute with them: the ends of a
+// range of the library are fields that no definition can name.
 #[derive(Clone, Copy)]
 pub struct Fields {
     pub option_from: u8,

@@ -1,4 +1,5 @@
-// Why something is refused: the table of document 01 by its numbers, and 23 of document 02.
+// Why something is refused: the table of document 01 by its numbers, and 23 of document 02. The words for the desk are in tools/, so it
+// has no `Display`.
 ghost use Rattle.std.specs.Prelude.{◌≡◌, if◌then◌else◌};
 ghost use Rattle.rules.specs.Refusals.{refusal_number};
 ghost use Rattle.rules.specs.Answer.{number_of};
@@ -18,7 +19,7 @@ pub enum Refusal {
     WrongService = 5,
     // the receipt is not known, or was returned
     NoPayment = 6,
-    // of a payout or a deposit: more than there is room for, or not what can be moved
+    // of a payout or a deposit: more than there is room for, a sum asked that is not above what is held, or not what can be moved
     WrongSum = 7,
     NotEarned = 8,
     // nothing is in arrears, or an arrangement is in force
@@ -43,7 +44,7 @@ pub enum Refusal {
 }
 
 impl Refusal {
-    // The papers' word for it.
+    // The papers' word for it. Not `From`: u64::from(u8::from(refusal)) would be no plainer where it is told.
     pub fn number(self) -> u8
         ensures { result ≡ refusal_number self }
     {
@@ -59,7 +60,7 @@ impl Refusal {
     }
 }
 
-// The number that refuses, 0 where nothing does.
+// The number that refuses; 0 where nothing does, and where the memory is no account.
 pub fn number_of<T: Drop>(answer: Result<T, Refusal>) -> u8
     ensures { result ≡ number_of answer }
 {

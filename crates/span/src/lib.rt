@@ -1,11 +1,11 @@
 // Memory in spans of words: what a store in one span does to the others is a law on lists (proofs/Law.antt). Here is what a part of an
-// account is, and a span of one word.
+// account is.
 #![tactic(auto)]
 
 ghost use Rattle.std.specs.Prelude.{◌≡◌, ℕ, Bool, List, length};
 
 // What an account keeps in a span of its own: a value that is read from the words, changed, and written back. The words are lent
-// as a slice with a clause on its length: what memory is after a piece of it was lent as an array is left open by the check.
+// as a slice with a clause on its length: what memory is after a piece of it was lent on as an array is left open by the check.
 pub trait Part: Copy {
     // how many words it has
     ghost WORDS: { ℕ };

@@ -1,5 +1,5 @@
 // The table of refusals as code: rows 4 to 19, of a View and an event. Only the rows that concern the event's kind are asked.
-// Every function takes any View and any Event, and its contract is an equation with the rules' definition.
+// What is public takes any View and any Event, and each contract is an equation with the rules' definition.
 #![tactic(auto)]
 
 mod arms;
@@ -38,7 +38,7 @@ fn row4(v: View, e: Event) -> bool
 }
 
 // 5 to 19, of which each kind has its own; `charge` is the amount of the item that the event makes; 0 where it makes
-// none, since no row of such a kind asks for it. A certificate, an approval and a kind that is not known have none.
+// none, since no row of such a kind asks for it. A certificate, an approval and a kind that is not known have no rows here.
 #[tactic(auto, unfolding(crate::specs::ByKind::from_row5), using(crate::proofs::Equations::passing, crate::proofs::ByKind::of_unknown))]
 fn from_row5(v: View, e: Event, charge: u64) -> Result<(), Refusal>
     requires { charge ≡ min (charge_of v e) largest }

@@ -7,7 +7,7 @@ use Rattle.receipts.proofs.step.Goals as goal
 pub bounds-w-from : goal.bounds-w-from
 bounds-w-from c =
     let t = last_option payment c.args.posted.event c.args.posted.well_formed (sym c.is.ensures ∙ c.if-is.true) in
-    omega (arith, t, c.from.ensures, c.requires.0)
+    omega (arith, t, c.from.ensures, c.requires.size)
 
 pub bounds-w-place : goal.bounds-w-place
 bounds-w-place c =
@@ -17,7 +17,7 @@ bounds-w-place c =
 pub bounds-w-place-then-is-2 : goal.bounds-w-place-then-is-2
 bounds-w-place-then-is-2 c =
     let t = last_option returned_payment c.args.posted.event c.args.posted.well_formed (sym c.is-else-is.ensures ∙ c.if-is-2.true) in
-    omega (arith, t, c.place-then-is-2.ensures, c.requires.0)
+    omega (arith, t, c.place-then-is-2.ensures, c.requires.size)
 
 pub returns-then-is : goal.returns-then-is
 returns-then-is c =

@@ -12,20 +12,21 @@ step-requires-clause-ledger_room c =
     rw (c.credit-credit.ensures, item_exact a.m.now e a.offer.view a.offer.item p)
     (item_room _ e _ _ _ (money_room a.m.now e a.offer.view a.offer.item p))
 
-pub step-requires-2 : goal.step-requires-2
-step-requires-2 c =
+pub step-requires-2-clause-fit : goal.step-requires-2-clause-fit
+step-requires-2-clause-fit c =
     let a = c.args in
-    (search rules, rw (receipts_still a.m.now c.requires.fit.words_are a.posted.event c.step.new.w (search rules)) c.requires.fit.fit.receipts_fit)
+    rw (receipts_still a.m.now c.requires.fit.words_are a.posted.event c.step.new.w (search rules)) c.requires.fit.fit.receipts_fit
 
-pub step-requires-3 : goal.step-requires-3
-step-requires-3 c =
+pub step-requires-3-clause-fit : goal.step-requires-3-clause-fit
+step-requires-3-clause-fit c =
     let a = c.args in
-    let e = a.posted.event in (
-      search rules,
-      rw (arrangement_still a.m.now c.requires.fit.words_are e c.step.new.w (search rules) c.step-2.new.w (search rules))
-          c.requires.fit.fit.arrangement_fit,
-      (passing_room a.m.now e a.offer.view a.offer.item c.requires).payment_room,
-    )
+    rw (arrangement_still a.m.now c.requires.fit.words_are a.posted.event c.step.new.w (search rules) c.step-2.new.w (search rules))
+    c.requires.fit.fit.arrangement_fit
+
+pub step-requires-3-clause-payment_bound : goal.step-requires-3-clause-payment_bound
+step-requires-3-clause-payment_bound c =
+    let a = c.args in
+    (passing_room a.m.now a.posted.event a.offer.view a.offer.item c.requires).payment_room
 
 pub returns : goal.returns
 returns c =

@@ -1,8 +1,3 @@
-use Prim.Native.Nat.{◌≤◌, zero-le}
-use Rattle.std.proofs.lemmas.Bool.{cond_both}
-use Rattle.rules.specs.Kinds.{returned_payment}
-use Rattle.rules.specs.History.{is}
-use Rattle.rules.specs.Limits.{limit}
 use Rattle.account.proofs.Steps.{receipts_still, arrangement_still}
 use Rattle.account.proofs.OwnWays.{payment_ledger, payment_by_lem}
 use borrow.Author.Rules.{rules}
@@ -11,20 +6,17 @@ use Rattle.account.proofs.ways.take_payment.Goals as goal
 pub step-requires-clause-ledger_room : goal.step-requires-clause-ledger_room
 step-requires-clause-ledger_room c = payment_ledger c.args.m.now c.args.posted.event c.requires.0 c.requires.1
 
-pub step-requires-2 : goal.step-requires-2
-step-requires-2 c =
+pub step-requires-2-clause-fit : goal.step-requires-2-clause-fit
+step-requires-2-clause-fit c =
     let a = c.args in
     let f = c.requires.0.fit in
-    (search rules, rw (receipts_still a.m.now f.words_are a.posted.event c.step.new.w (search rules)) f.fit.receipts_fit)
+    rw (receipts_still a.m.now f.words_are a.posted.event c.step.new.w (search rules)) f.fit.receipts_fit
 
-pub step-requires-3 : goal.step-requires-3
-step-requires-3 c =
+pub step-requires-3-clause-fit : goal.step-requires-3-clause-fit
+step-requires-3-clause-fit c =
     let a = c.args in
-    let f = c.requires.0.fit in (
-      search rules,
-      rw (arrangement_still a.m.now f.words_are a.posted.event c.step.new.w (search rules) c.step-2.new.w (search rules)) f.fit.arrangement_fit,
-      cond_both (is returned_payment a.posted.event) 0 0 (λ n. n ≤ limit) (λ _. zero-le) (λ _. zero-le),
-    )
+    let f = c.requires.0.fit in
+    rw (arrangement_still a.m.now f.words_are a.posted.event c.step.new.w (search rules) c.step-2.new.w (search rules)) f.fit.arrangement_fit
 
 pub returns : goal.returns
 returns c =
