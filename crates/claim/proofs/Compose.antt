@@ -83,7 +83,7 @@ module _ (h : History) (e : Event) (w : Lawful h) where
   unfolding answer_to
   answer_found = let k = laws h w in rw (k.passing, k.account_is) (answer_same h e k)
 
-  pub words_found : words_after (words_of (account_of h)) e ≡ words_of (account_of (offered h e))
+  words_found : words_after (words_of (account_of h)) e ≡ words_of (account_of (offered h e))
   unfolding words_after
   words_found = let k = laws h w in rw (k.passing, k.account_is) (ap words_of (state_same h e w))
 

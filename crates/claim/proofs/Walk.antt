@@ -33,7 +33,7 @@ pub begin : (m : List ℕ) → m ≡ fresh_words → Walked [] m 0
 begin m e = record { at = e; count = refl }
 
 module _ (past : List Event) (m : List ℕ) (r : ℕ) (w : Walked past m r) where
-  pub walked_passes : passes m ≡ true
+  walked_passes : passes m ≡ true
   walked_passes = rw w.at (demand_3 past).passing
 
   pub walked_fit : Fit m

@@ -24,7 +24,7 @@ use Rattle.questions.specs.Questions.{Tells, Says}
 use Rattle.hollupaq.specs.Library.{told, told_yes, answer_word, amount_word, truth_word}
 use Rattle.hollupaq.specs.Books.{Stored}
 
-pub told_number : (n v : ℕ) → (n ≡ 0 → ⊥) → n ≡ told n v
+told_number : (n v : ℕ) → (n ≡ 0 → ⊥) → n ≡ told n v
 told_number zero v h = absurd (h refl)
 told_number (suc n) v h = refl
 

@@ -9,10 +9,9 @@ ghost use Rattle.report.specs.Report.{input_text};
 ghost use Rattle.standing.specs.Program.{AfterFailure, HoldsText};
 
 use report::{LONGEST_INPUT, ROOM, report_input};
-use std::fmt;
-use std::io;
 use std::io::{Read, Write};
 use std::process::ExitCode;
+use std::{fmt, io};
 
 // Reads until the memory is full, the input ends or a read fails: how many bytes stand at the start of the memory then,
 // and whether none failed. A loop, and not the library's read_exact or read_to_end: after a failure they leave open what was read.

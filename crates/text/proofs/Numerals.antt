@@ -20,7 +20,7 @@ pub decimal_short : (n : ℕ) → n < 2 ^ 64 → length (decimal n) ≤ 20
 decimal_short n h = length-decimal-le 20 n (omega arith) (omega arith) h
 
 -- a number has one digit more than the power of ten below it
-pub width_is : (k n : ℕ) → n < 2 ^ 64 → 10 ^ k ≤ n → n < 10 * 10 ^ k → length (decimal n) ≡ k + 1
+width_is : (k n : ℕ) → n < 2 ^ 64 → 10 ^ k ≤ n → n < 10 * 10 ^ k → length (decimal n) ≡ k + 1
 width_is zero n h a b = ap length (decimal_digit n (omega arith))
 width_is (suc k) n h a b =
     let p : 10 ^ suc k ≡ 10 * 10 ^ k = omega arith in

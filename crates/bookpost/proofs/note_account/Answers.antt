@@ -19,7 +19,7 @@ loop-at-preserved c =
     let at : x.0 ≡ length (unnumbered l.yielded) = omega (arith, numbered start l.at-iterator l.yielded l.yielded_by, c.in-Some.ensures.steps.1) in
     let y : to_z w64 (of_z w64 c.owed.result) ≡ c.owed.result = search rules in
     let p : Posted = record { answer = c.post_lent.result; account = c.post_lent.new.a } in
-    let q : p ≡ posted l.account c.in-Some.e = rw (c.post_lent.ensures.0, c.post_lent.ensures.1) in
+    let q : p ≡ posted l.account c.in-Some.e = rw (c.post_lent.ensures.answer_is, c.post_lent.ensures.account_is) in
     rw (unnumbered_more l.yielded x)
     (noted_more a.numbers.now a.owed.now (unnumbered l.yielded) l.numbers l.owed l.account.memory l.invariant c.in-Some.e p c.in-Some.at c.number_of.result
     (to_z w64 (of_z w64 c.owed.result)) at q c.number_of.ensures (y ∙ c.owed.ensures))
