@@ -8,8 +8,7 @@ use lib.Dec.{ltb}
 use lib.ListN.{length}
 use Rattle.basics.proofs.Cases.{on}
 use Rattle.bookformat.specs.Book.{book_refusal}
-use Rattle.bookformat.proofs.Told.{book_facts}
-use Rattle.bookformat.proofs.Told.{book_in_table}
+use Rattle.bookformat.proofs.Told.{book_facts, book_in_table}
 use Rattle.text.proofs.Numerals.{decimal_short}
 use Rattle.report.specs.Report.{refused_text, text_by, text_of, input_text, most_room, short_for, WroteText}
 use Rattle.std.proofs.Common.{Result, Ok, Err}
