@@ -12,7 +12,7 @@ ghost use Rattle.bookpost.specs.BookHistory.{numbers_of, owed_from, history_refu
 
 use account::{Account, judge};
 use book::Book;
-use lent::post_through;
+use lent::post_lent;
 use rules::Answer;
 use rules::refusals::{Refusal, number_of};
 
@@ -44,9 +44,7 @@ fn note_account(book: Book, i: usize, numbers: &mut [u8], owed: &mut [i64])
 {
     let mut account = Account::fresh();
     for (at, e) in book.records_of(i).enumerate() {
-        let p = post_through(account, e);
-        account = p.account;
-        numbers[at] = number_of(p.answer);
+        numbers[at] = number_of(post_lent(&mut account, e));
         owed[at] = questions::owed(&account.memory);
     }
 }

@@ -15,7 +15,7 @@ in_memory a [] [] z h = ap (λ b. b.memory) h
 in_memory a [] (s ∷ said) z h = absurd h
 in_memory a (e ∷ es) [] z h = absurd h
 in_memory a (e ∷ es) (s ∷ said) z h =
-    (h.0.memory, (record { answer_is = h.1.0.0; words_are = ap (λ b. b.memory) h.1.0.1 }, in_memory h.0 es said z h.1.1))
+    (h.0.memory, (record { answer_is = h.1.0.answer_is; words_are = ap (λ b. b.memory) h.1.0.account_is }, in_memory h.0 es said z h.1.1))
 
 -- DEMAND 3
 pub demand_3_lent : (es : List Event) (said : List Answer) (z : Account) → LentClaim es said z
@@ -24,4 +24,4 @@ demand_3_lent es said z h = demand_3_left es said z.memory (in_memory fresh_acco
 -- every list can be posted so
 pub any_list_lent : (a : Account) (es : List Event) → LeftBy LeavesLent a es (answers a.memory es) (record { memory = run a.memory es })
 any_list_lent a [] = refl
-any_list_lent a (e ∷ es) = ((posted a e).account, ((refl, refl), any_list_lent (posted a e).account es))
+any_list_lent a (e ∷ es) = ((posted a e).account, (record { answer_is = refl; account_is = refl }, any_list_lent (posted a e).account es))

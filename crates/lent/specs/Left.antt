@@ -10,8 +10,9 @@ use Rattle.claim.specs.Run.{LeftBy}
 use Rattle.claim.specs.Claim.{ClaimOf}
 
 -- one posting: the account was a, s is the answer to e, and z is the account that is left
-abbrev pub LeavesLent : Account → Event → Answer → Account → Type 0
-LeavesLent a e s z = (s ≡ (posted a e).answer) × (z ≡ (posted a e).account)
+pub record LeavesLent (a : Account) (e : Event) (s : Answer) (z : Account) : Type 0 where
+  pub answer_is : s ≡ (posted a e).answer
+  pub account_is : z ≡ (posted a e).account
 
 abbrev pub fresh_account : Account
 fresh_account = record { memory = fresh_words }

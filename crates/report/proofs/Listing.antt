@@ -1,5 +1,5 @@
 -- The lines of all accounts, one after another: what is still to be written gives the whole.
-use Prim.Native.Nat.{ℕ, zero, suc, ◌+◌, ◌*◌, ◌≤◌, ◌<◌}
+use Prim.Native.Nat.{ℕ, zero, suc, ◌+◌, ◌*◌, ◌^◌, ◌≤◌, ◌<◌}
 use mathlib.Core.Path.{◌≡◌, refl, sym, ap, ◌∙◌}
 use mathlib.Core.Bool.{false}
 use mathlib.Core.List.{List, [], ◌∷◌, ◌++◌}
@@ -13,10 +13,10 @@ use Rattle.basics.specs.Ascii.{ascii}
 use Rattle.little.proofs.Stores.{sets_front, sets_then}
 use Rattle.bookformat.specs.Book.{accounts, book_refusal, decode}
 use Rattle.bookformat.specs.Finding.{book_account}
-use Rattle.bookformat.proofs.Found.{decode_length}
-use Rattle.text.specs.Decimal.{width, decimal}
+use Rattle.bookformat.proofs.Found.{decode_length, account_small}
+use Rattle.std.specs.Fmt.{decimal}
+use Rattle.std.proofs.lemmas.List.{length_push}
 use Rattle.text.specs.Put.{Put}
-use Rattle.text.proofs.Numerals.{length_decimal, length_marked}
 use Rattle.report.specs.Report.{heading, line_of, lines_of, listing, refused_text, text_by, room_for, WroteText}
 use Rattle.std.specs.List.{sum_by, range_with_len}
 use Rattle.std.proofs.lemmas.List.Sums.{sum_by-cons}
@@ -25,8 +25,8 @@ use Rattle.rules.specs.declared.refusals.Refusal.{Refusal}
 use Rattle.rules.specs.declared.refusals.Refusal.TheVariants.{TooShort}
 use Rattle.rules.specs.Refusals.{refusal_number}
 use Rattle.bookformat.specs.Answers.{outcome_of}
-use Rattle.bookformat.proofs.Told.{told, book_in_table}
-use Rattle.report.proofs.Lines.{lines_short}
+use Rattle.bookformat.proofs.Told.{book_facts, told, book_in_table}
+use Rattle.report.proofs.Lines.{line_of_short}
 
 -- the lines from account i on
 abbrev pub remaining : List ℕ → ℕ → List ℕ
@@ -93,8 +93,24 @@ sizes_from b (suc left) i e =
 pub all_sizes : (b : List ℕ) → sum_by (line_size b) (range_with_len 0 (accounts b)) ≡ length (lines_of 0 (decode b))
 all_sizes b = sizes_from b (accounts b) 0 (omega arith)
 
-pub sizes_short : (b : List ℕ) → sum_by (line_size b) (range_with_len 0 (accounts b)) ≤ 113 * accounts b
-sizes_short b = omega (arith, all_sizes b, lines_short 0 (decode b), decode_length b)
+-- no line of a book is longer than 113 bytes
+pub line_short : (b : List ℕ) (i : ℕ) → book_refusal b ≡ 0 → i < 2 ^ 64 → line_size b i ≤ 113
+line_short b i z h = line_of_short i (book_account b i) h (omega (arith, account_small b i z))
+
+remaining_short : (b : List ℕ) (left i : ℕ) → book_refusal b ≡ 0 → i + left ≡ accounts b → length (remaining b i) ≤ 113 * left
+remaining_short b zero i z e = omega (arith, ap length (none_left b i (omega arith)))
+remaining_short b (suc left) i z e =
+    let few = (book_facts b z).0.few in
+    omega (
+      arith,
+      ap length (next_line b i (omega arith)),
+      length-append (line_of i (book_account b i)) (remaining b (i + 1)),
+      line_short b i z (omega arith),
+      remaining_short b left (i + 1) z (omega arith),
+    )
+
+pub lines_short : (b : List ℕ) → book_refusal b ≡ 0 → length (lines_of 0 (decode b)) ≤ 113 * accounts b
+lines_short b z = remaining_short b (accounts b) 0 z (omega arith)
 
 -- ---- the whole
 module _ (b : List ℕ) where
@@ -102,12 +118,12 @@ module _ (b : List ℕ) where
   unfolding listing
   listing_length = length-append heading (lines_of 0 (decode b))
 
-  pub listing_short : length (listing b) ≤ room_for (accounts b)
-  listing_short = omega (arith, listing_length, lines_short 0 (decode b), decode_length b)
+  pub listing_short : book_refusal b ≡ 0 → length (listing b) ≤ room_for (accounts b)
+  listing_short z = omega (arith, listing_length, lines_short b z)
 
   -- room for 113 bytes a line is plenty
-  pub plenty : (n : ℕ) → room_for (accounts b) ≤ n → ltb n (length (listing b)) ≡ false
-  plenty n h = le-ltb n (length (listing b)) (omega (arith, listing_short))
+  pub plenty : (n m : ℕ) → book_refusal b ≡ 0 → m ≡ accounts b → room_for m ≤ n → ltb n (room_for m) ≡ ltb n (length (listing b))
+  plenty n m z e h = le-ltb n (room_for m) h ∙ sym (le-ltb n (length (listing b)) (omega (arith, e, listing_short z)))
 
   pub counted : (m n : ℕ) → n ≡ length (lines_of 0 (decode b)) → ltb m (39 + n) ≡ ltb m (length (listing b))
   counted m n e = ap (ltb m) (ap (λ k. 39 + k) e ∙ sym listing_length)
@@ -140,9 +156,9 @@ text_refused b r e =
     let t = told (book_refusal b) r (book_in_table b) e in
     refused_as (book_refusal b) b t.1 ∙ ap refused_text (sym t.0)
 
-pub refused_width : {w n : ℕ} (r : Refusal) → w ≡ width n → n ≡ refusal_number r → w ≡ width (refusal_number r)
-refused_width r p q = p ∙ ap width q
+pub refused_width : {w n : ℕ} (r : Refusal) → w ≡ length (decimal n) → n ≡ refusal_number r → w ≡ length (decimal (refusal_number r))
+refused_width r p q = p ∙ ap (λ n. length (decimal n)) q
 
-pub refused_length : (n : ℕ) → length (refused_text n) ≡ 14 + width n
+pub refused_length : (n : ℕ) → length (refused_text n) ≡ 14 + length (decimal n)
 unfolding refused_text
-refused_length n = omega (arith, length-append (ascii "book refused ") (decimal n ++ (10 ∷ [])), length_marked (decimal n) 10, length_decimal n)
+refused_length n = omega (arith, length-append (ascii "book refused ") (decimal n ++ (10 ∷ [])), length_push (decimal n) 10)

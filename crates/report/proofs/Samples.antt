@@ -2,6 +2,7 @@
 use Prim.Native.Nat.{ℕ}
 use mathlib.Core.Path.{◌≡◌, refl}
 use mathlib.Core.List.{[], ◌∷◌}
+use Rattle.std.specs.Fmt.{digits}
 use Rattle.basics.specs.Ascii.{ascii}
 use Rattle.rules.specs.declared.Event.{Event}
 use Rattle.rules.specs.Table.{refusal_by}
@@ -9,7 +10,6 @@ use Rattle.rules.specs.History.{within, total}
 use Rattle.rules.specs.Range.{in_range}
 use Rattle.little.specs.Little.{num, un, le}
 use Rattle.bookformat.specs.Book.{AccountList, encode}
-use Rattle.text.specs.Decimal.{width, decimal}
 use Rattle.report.specs.Report.{line_of, listing, refused_text, text_of}
 
 abbrev event : ℕ → ℕ → ℕ → ℕ → Event
@@ -20,7 +20,7 @@ abbrev worked : AccountList
 worked = (event 1 0 100 10000 ∷ event 1 0 130 5000 ∷ event 2 0 131 4000 ∷ event 14 0 131 0 ∷ []) ∷ []
 
 pub worked_example : text_of (encode worked) ≡ ascii "account owed held open service refused\n0 11075 0 2 on 1\n"
-unfolding num un le decimal width line_of listing refusal_by in_range within total
+unfolding num un le digits line_of listing refusal_by in_range within total
 worked_example = refl
 
 -- a credit with a deposit held; no events; closed, and nothing goes in after it
@@ -32,14 +32,14 @@ three =
     ∷ []
 
 pub three_accounts : text_of (encode three) ≡ ascii "account owed held open service refused\n0 -150 40 0 on 0\n1 0 0 0 on 0\n2 0 0 0 closed 2\n"
-unfolding num un le decimal width line_of listing refusal_by in_range within total
+unfolding num un le digits line_of listing refusal_by in_range within total
 three_accounts = refl
 
 pub no_bytes : text_of [] ≡ ascii "book refused 20\n"
-unfolding num un decimal width refused_text
+unfolding num un digits refused_text
 no_bytes = refl
 
 -- kind 17
 pub unknown_kind : text_of (encode ((event 17 0 0 0 ∷ []) ∷ [])) ≡ ascii "book refused 21\n"
-unfolding num un le decimal width refused_text
+unfolding num un le digits refused_text
 unknown_kind = refl

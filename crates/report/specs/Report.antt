@@ -1,5 +1,7 @@
 -- The text that `standing` prints for a book, by the rules over events alone.
 use Rattle.std.specs.Prelude.{ℕ, zero, suc, ◌+◌, ◌*◌, ◌-◌, ◌≡◌, Bool, cond, List, [], ◌∷◌, ◌++◌, ltb, ℤ, length, drop, Result}
+use Rattle.std.specs.Result.{result_unwrap_or}
+use Rattle.std.specs.Fmt.{decimal, signed_decimal}
 use Rattle.basics.specs.Ascii.{ascii}
 use Rattle.rules.specs.declared.Event.{Event}
 use Rattle.rules.specs.declared.Service.{Service}
@@ -8,10 +10,8 @@ use Rattle.rules.specs.Deposit.{held}
 use Rattle.rules.specs.Money.{owed, open_items}
 use Rattle.rules.specs.Service.{service, word_of}
 use Rattle.rules.specs.declared.refusals.Refusal.{Refusal}
-use Rattle.std.specs.Result.{result_unwrap_or}
 use Rattle.rules.specs.Answer.{number_of}
 use Rattle.rules.specs.Accepted.{accepted}
-use Rattle.text.specs.Decimal.{decimal, signed}
 use Rattle.bookformat.specs.Book.{AccountList, most_accounts, book_refusal, decode}
 
 -- words with one space between, and the end of the line
@@ -23,7 +23,7 @@ spaced (w ∷ v ∷ ws) = (w ++ (32 ∷ [])) ++ spaced (v ∷ ws)
 -- an account's line: its index, owed in cents, held, open items, service, refused count
 abbrev pub line : ℕ → ℤ → ℕ → ℕ → Service → ℕ → List ℕ
 line i owes holds opens serves refuses =
-    spaced (decimal i ∷ signed owes ∷ decimal holds ∷ decimal opens ∷ word_of serves ∷ decimal refuses ∷ [])
+    spaced (decimal i ∷ signed_decimal owes ∷ decimal holds ∷ decimal opens ∷ word_of serves ∷ decimal refuses ∷ [])
 
 -- the line of account i, whose records are es and whose accepted events are h
 abbrev pub line_by : ℕ → List Event → History → List ℕ
@@ -75,15 +75,6 @@ room_for n = 39 + longest_line * n
 abbrev pub most_room : ℕ
 most_room = room_for most_accounts
 
--- ---- the answer, as document 01's number and value
--- the number that refuses, 0 where the text is written
-abbrev pub printed_number : Result ℕ Refusal → ℕ
-printed_number r = number_of r
-
--- how many bytes were written, 0 where it is refused
-abbrev pub printed_bytes : Result ℕ Refusal → ℕ
-printed_bytes r = result_unwrap_or r 0
-
 -- ---- writing a text
 -- the output is too short for the text
 abbrev pub short_for : List ℕ → List ℕ → Bool
@@ -101,11 +92,11 @@ print_length text old = cond (short_for text old) 0 (length text)
 abbrev pub printed_in : List ℕ → List ℕ → List ℕ
 printed_in text old = cond (short_for text old) old (text ++ drop (length text) old)
 
--- what writing a text does: its answer, by number and bytes, and every byte of the output. No text is empty, so that
--- number and bytes are those of one answer only (`one_answer` in proofs/Texts.antt)
+-- what writing a text does: its answer, by document 01's number and value, and every byte of the output. No text is empty, so that
+-- number and value are those of one answer only (`one_answer` in proofs/Texts.antt)
 pub record WroteText (text old new : List ℕ) (r : Result ℕ Refusal) : Type 0 where
-  pub number : printed_number r ≡ print_refusal text old
-  pub written : printed_bytes r ≡ print_length text old
+  pub number : number_of r ≡ print_refusal text old
+  pub written : result_unwrap_or r 0 ≡ print_length text old
   pub bytes : new ≡ printed_in text old
 
 -- what a report of the bytes b does

@@ -1,5 +1,6 @@
 -- What is printed of one account.
 use Rattle.std.specs.Prelude.{ℕ, ◌-◌, ◌≡◌, List, [], ◌∷◌, ◌++◌, length}
+use Rattle.std.specs.Fmt.{decimal, signed_decimal}
 use Rattle.std.proofs.Math.IntN.{sub_ℕ}
 use Rattle.rules.specs.declared.Event.{Event}
 use Rattle.rules.specs.History.{History}
@@ -9,7 +10,6 @@ use Rattle.rules.specs.Service.{service, word_of}
 use Rattle.collection.specs.Collection.{service_by}
 use Rattle.ledger.specs.Ledger.{credits_by}
 use Rattle.account.specs.State.{state_on}
-use Rattle.text.specs.Decimal.{decimal, signed}
 use Rattle.report.specs.declared.Standing.{Standing}
 
 -- s is where an account stands after the events es, of which h are accepted
@@ -38,7 +38,7 @@ followed w m = w ++ (m ∷ [])
 
 -- index, owed and held; open items, service and refused count
 abbrev pub money_part : ℕ → Standing → List ℕ
-money_part i s = followed (decimal i) 32 ++ (followed (signed (sub_ℕ s.charged s.credits)) 32 ++ followed (decimal s.held) 32)
+money_part i s = followed (decimal i) 32 ++ (followed (signed_decimal (sub_ℕ s.charged s.credits)) 32 ++ followed (decimal s.held) 32)
 
 abbrev pub state_part : Standing → List ℕ
 state_part s = followed (decimal s.open_count) 32 ++ (followed (word_of s.service) 32 ++ followed (decimal s.refused) 10)

@@ -51,6 +51,9 @@ pub struct Standing {
 // The first line.
 const HEADING: [u8; FIRST_LINE] = *b"account owed held open service refused\n";
 
+// The line of a refused book, before its number.
+const REFUSED: [u8; 13] = *b"book refused ";
+
 // Where an account stands, of whose records so many were refused.
 fn standing_in(account: Known, refused: u64) -> Standing
     ensures { result ≡ standing_on account.entry.words.now refused }
@@ -100,14 +103,16 @@ fn put_lines(book: Book, out: &mut [u8], p: usize) -> usize
 
 // How long the line of account i is, 113 bytes at most: it is stored where nobody reads it.
 fn account_length(book: Book, i: usize) -> usize
-    ensures { (result ≡ length (line_of i (book_account book.entry.bytes.now i))) × (result ≤ longest_line) }
+    ensures told { result ≡ length (line_of i (book_account book.entry.bytes.now i)) }
+    ensures short { result ≤ longest_line }
 {
     put_account(book, i, &mut [0; LINE], 0)
 }
 
 // How long the lines of all accounts are.
 fn lines_length(book: Book) -> usize
-    ensures { let b = book.entry.bytes.now in (result ≡ length (lines_of 0 (decode b))) × (result ≤ longest_line * accounts b) }
+    ensures told { result ≡ length (lines_of 0 (decode book.entry.bytes.now)) }
+    ensures short { result ≤ longest_line * accounts book.entry.bytes.now }
 {
     (0..book.accounts()).map(|i| account_length(book, i)).sum()
 }
@@ -116,10 +121,7 @@ fn lines_length(book: Book) -> usize
 fn is_short(book: Book, room: usize) -> bool
     ensures { result ≡ ltb room (length (listing book.entry.bytes.now)) }
 {
-    if FIRST_LINE + LINE * book.accounts() <= room {
-        return false;
-    }
-    room < FIRST_LINE + lines_length(book)
+    room < FIRST_LINE + LINE * book.accounts() && room < FIRST_LINE + lines_length(book)
 }
 
 // Stores the heading and the lines, where the output is long enough.
@@ -136,10 +138,10 @@ fn put_refusal(out: &mut [u8], refusal: Refusal) -> Result<usize, Refusal>
     ensures { WroteText (refused_text (refusal_number refusal)) out.old out.new result }
 {
     let number = u64::from(refusal.number());
-    if out.len() < 14 + width(number) {
+    if out.len() < REFUSED.len() + width(number) + 1 {
         return Err(Refusal::TooShort);
     }
-    let p = put_bytes(out, 0, b"book refused ");
+    let p = put_bytes(out, 0, &REFUSED);
     Ok(put_number(out, p, number, b'\n'))
 }
 

@@ -27,10 +27,10 @@ pub fn put_line(out: &mut [u8], p: usize, i: u64, s: Standing) -> usize
     requires { p + length (standing_line i s) ≤ length out.old }
     ensures { Put (standing_line i s) out.old out.new p result }
 {
-    let owed = put_number(out, p, i, b' ');
-    let held = put_difference(out, owed, s.charged, s.credits, b' ');
-    let open = put_number(out, held, s.held, b' ');
-    let word = put_number(out, open, s.open_count, b' ');
-    let refused = put_word(out, word, s.service);
-    put_number(out, refused, s.refused, b'\n')
+    let owed_at = put_number(out, p, i, b' ');
+    let held_at = put_difference(out, owed_at, s.charged, s.credits, b' ');
+    let open_at = put_number(out, held_at, s.held, b' ');
+    let word_at = put_number(out, open_at, s.open_count, b' ');
+    let refused_at = put_word(out, word_at, s.service);
+    put_number(out, refused_at, s.refused, b'\n')
 }

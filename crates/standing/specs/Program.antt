@@ -7,7 +7,7 @@ use Rattle.standing.specs.declared.Failed.{Failed}
 use Rattle.standing.specs.declared.Failed.TheVariants.{Reading, Writing}
 
 -- b was read, and the output holds its text, all n bytes of it, and then its old tail
-pub record Prints (b old new : List ℕ) (n : ℕ) : Type 0 where
+pub record HoldsText (b old new : List ℕ) (n : ℕ) : Type 0 where
   pub count : n ≡ length (input_text b)
   pub bytes : new ≡ input_text b ++ drop n old
 

@@ -6,12 +6,12 @@ ghost use Rattle.std.specs.Prelude.{◌≡◌, OnOk, IfErr, IfSome, length, take
 ghost use Rattle.std.specs.Counts.{IsPrefixLen};
 ghost use Rattle.std.specs.Io.KnownBytes.{Appends, Consumes};
 ghost use Rattle.report.specs.Report.{input_text};
-ghost use Rattle.standing.specs.Program.{AfterFailure, Prints};
+ghost use Rattle.standing.specs.Program.{AfterFailure, HoldsText};
 
 use report::{LONGEST_INPUT, ROOM, report_input};
-use std::io;
 use std::io::{Read, Write};
 use std::process::ExitCode;
+use std::{fmt, io};
 
 // Reads until the memory is full, the input ends or a read fails: how many bytes stand at the start of the memory then,
 // and whether none failed. A loop, and not the library's read_exact or read_to_end: after a failure they leave open what was read.
@@ -33,10 +33,10 @@ fn read<R: Read>(input: &mut R, memory: &mut [u8]) -> (usize, io::Result<()>)
 }
 
 // The text for what was read, in memory with room for every text, and how many bytes it takes.
-fn print(book: &[u8], out: &mut [u8; ROOM]) -> usize
-    ensures { Prints book.now out.old out.new result }
+fn put_text(book: &[u8], out: &mut [u8; ROOM]) -> usize
+    ensures { HoldsText book.now out.old out.new result }
 {
-    report_input(book, out).unwrap_or(0)
+    report_input(book, out).unwrap()
 }
 
 // Hands a text to the output: nothing but the whole text for what was read.
@@ -54,6 +54,15 @@ enum Failed {
     Writing,
 }
 
+impl fmt::Display for Failed {
+    fn fmt<W: fmt::Write>(&self, f: &mut fmt::Formatter<W>) -> fmt::Result {
+        f.write_str(match self {
+            Failed::Reading => "can't read all of standard input",
+            Failed::Writing => "can't write all to standard output",
+        })
+    }
+}
+
 // The whole work, from any input to any output: what is written is the text for all that the input had, and no other
 // byte. One byte more is read than a book may have, so that a longer file is seen. Where a read fails, the text is that
 // for what came before it, and the failure is told afterwards. It leaves by let .. else: behind map_err(..)? what the
@@ -66,7 +75,7 @@ fn answer<R: Read, W: Write>(input: &mut R, output: &mut W) -> Result<(), Failed
     let mut book = [0u8; LONGEST_INPUT + 1];
     let mut out = [0u8; ROOM];
     let (n, all_read) = read(input, &mut book);
-    let length = print(&book[..n], &mut out);
+    let length = put_text(&book[..n], &mut out);
     let Ok(()) = write(output, &book[..n], &out[..length]) else {
         return Err(Failed::Writing);
     };
@@ -78,12 +87,10 @@ fn answer<R: Read, W: Write>(input: &mut R, output: &mut W) -> Result<(), Failed
 
 // What went wrong is said on standard error, and by the exit status.
 fn main(rt: HostRuntime) -> ExitCode {
-    let text = match answer(&mut rt.stdin(), &mut rt.stdout()) {
-        Ok(()) => return ExitCode::SUCCESS,
-        Err(Failed::Reading) => "standing: can't read all of standard input",
-        Err(Failed::Writing) => "standing: can't write all to standard output",
+    let Err(e) = answer(&mut rt.stdin(), &mut rt.stdout()) else {
+        return ExitCode::SUCCESS;
     };
     // Where standard error takes nothing either, the status is left.
-    let _ = rt.eprintln(text);
+    let _ = eprintln!(rt; "standing: {e}");
     ExitCode::FAILURE
 }

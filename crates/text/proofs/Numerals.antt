@@ -1,47 +1,52 @@
 -- Laws of decimal text: its length, how it is stored, and that it reads back as the number.
-use Prim.Native.Nat.{ℕ, zero, suc, ◌+◌, ◌*◌, ◌-◌, ◌/◌, ◌%◌, ◌^◌, ◌≤◌, ◌<◌}
-use mathlib.Core.Path.{◌≡◌, refl, sym, ap, ◌∙◌}
-use mathlib.Core.List.{List, [], ◌∷◌, ◌++◌, append_assoc}
-use native.Mathlib.Omega.{arith}
-use lib.IntN.{ℤ, pos, negsuc}
-use lib.ListN.{length, take, drop, length-append, take-append-drop}
+use Rattle.std.proofs.Common.{◌≡◌, ℕ, zero, suc, ◌+◌, ◌-◌, ◌*◌, ◌/◌, ◌%◌, ◌^◌, ◌≤◌, ◌<◌, cond, List, ◌++◌, length, take, drop, refl, sym, ap, ◌∙◌, append_assoc, length-append, take-append-drop, ltb, None, Some, arith}
+use Rattle.std.specs.Prelude.{IfNone, IfSome}
+use Rattle.std.specs.declared.option.Option.{Option}
+use Rattle.std.specs.Option.{unwrap_or}
+use Rattle.std.specs.Fmt.{decimal, signed_decimal}
+use Rattle.std.specs.Str.Parse.{digits_value}
+use Rattle.std.proofs.Math.IntN.{sub_ℕ}
+use Rattle.std.proofs.lemmas.Fmt.{decimal_digit, decimal_step, decimal_is_IsNumeral_wide, length-decimal-le}
+use Rattle.std.proofs.lemmas.List.{length_push}
+use Rattle.std.proofs.Math.Nat.{one-le-pow}
 use lib.Seq.{sets, sets-eq, drop-drop, length-sets}
 use borrow.Rule.Slice.PartMut.{put_mid}
-use Rattle.std.specs.Fmt as printed
-use Rattle.std.proofs.lemmas.Fmt.{decimal_from_appends, length-decimal-le}
 use Rattle.basics.proofs.Cases.{on_lt}
-use borrow.Author.Tests.{lt-ltb, le-ltb}
 use Rattle.little.proofs.Stores.{sets_then}
 use Rattle.text.specs.Put.{Put}
-use Rattle.text.specs.Decimal.{digits, width_in, width, decimal, signed}
 
-pub length_digits : (w n : ℕ) → length (digits w n) ≡ w
-length_digits zero n = refl
-length_digits (suc w) n = rw (length-append (digits w (n / 10)) ((48 + n % 10) ∷ []), length_digits w (n / 10)) (omega arith)
+-- ---- how long it is: at most 20 digits, and a sign
+pub decimal_short : (n : ℕ) → n < 2 ^ 64 → length (decimal n) ≤ 20
+decimal_short n h = length-decimal-le 20 n (omega arith) (omega arith) h
 
-pub length_decimal : (n : ℕ) → length (decimal n) ≡ width n
-unfolding decimal
-length_decimal n = length_digits (width n) n
+-- a number has one digit more than the power of ten below it
+width_is : (k n : ℕ) → n < 2 ^ 64 → 10 ^ k ≤ n → n < 10 * 10 ^ k → length (decimal n) ≡ k + 1
+width_is zero n h a b = ap length (decimal_digit n (omega arith))
+width_is (suc k) n h a b =
+    let p : 10 ^ suc k ≡ 10 * 10 ^ k = omega arith in
+    let some : 10 ≤ n = omega (arith, one-le-pow k 10, a, p) in
+    let front = width_is k (n / 10) (omega arith) (omega (arith, a, p)) (omega (arith, b, p)) in
+    omega (arith, ap length (decimal_step n some h), length_push (decimal (n / 10)) (48 + n % 10), front)
 
--- at most 20 digits, and a sign
-width_in_short : (k n : ℕ) → width_in k n ≤ suc k
-width_in_short zero n = omega arith
-width_in_short (suc k) n = on_lt n 10 (λ s q. rw s (omega arith)) (λ s q. rw s (omega (arith, width_in_short k (n / 10))))
+pub width_told : (n : ℕ) (o : Option ℕ) → n < 2 ^ 64 → IfNone o (n ≡ 0) → IfSome o (λ k. 10 ^ k ≤ n) → IfSome o (λ k. n < 10 * 10 ^ k)
+    → unwrap_or o 0 + 1 ≡ length (decimal n)
+width_told n None h z a b = omega (arith, ap length (decimal_digit n (omega arith)))
+width_told n (Some k) h z a b = sym (width_is k n h a b)
 
-pub width_short : (n : ℕ) → width n ≤ 20
-unfolding width
-width_short n = width_in_short 19 n
+-- a less b, measured without storing it
+pub length_difference : (a b : ℕ) → length (signed_decimal (sub_ℕ a b)) ≡ cond (ltb a b) (1 + length (decimal (b - a))) (length (decimal (a - b)))
+length_difference a b =
+    on_lt a b
+    (λ q z. let e : suc (b - suc a) ≡ b - a = omega arith in rw q (omega (arith, ap (λ n. length (decimal n)) e)))
+    (λ q z. rw q refl)
 
-pub signed_short : (z : ℤ) → length (signed z) ≤ 21
-signed_short (pos n) = omega (arith, length_decimal n, width_short n)
-signed_short (negsuc n) = omega (arith, length_decimal (suc n), width_short (suc n))
+pub difference_short : (a b : ℕ) → a < 2 ^ 64 → b < 2 ^ 64 → length (signed_decimal (sub_ℕ a b)) ≤ 21
+difference_short a b h g =
+    on_lt a b
+    (λ q z. rw (length_difference a b, q) (omega (arith, decimal_short (b - a) (omega arith))))
+    (λ q z. rw (length_difference a b, q) (omega (arith, decimal_short (a - b) (omega arith))))
 
-pub length_marked : (x : List ℕ) (m : ℕ) → length (x ++ (m ∷ [])) ≡ length x + 1
-length_marked x m = length-append x (m ∷ [])
-
-pub decimal_room : (n mark : ℕ) → length (decimal n ++ (mark ∷ [])) ≡ width n + 1
-decimal_room n mark = rw (length_marked (decimal n) mark, length_decimal n)
-
+-- ---- how it is stored
 -- one text stored behind another
 pub put_then : (x y o o1 o2 : List ℕ) (p q r : ℕ) → Put x o o1 p q → Put y o1 o2 q r → Put (x ++ y) o o2 p r
 put_then x y o o1 o2 p q r a b =
@@ -62,61 +67,6 @@ pub sets_between : (o o2 x : List ℕ) (p q : ℕ) → p + length x ≡ q → q 
 sets_between o o2 x p q e h f g =
     sym (take-append-drop p o2) ∙ rw (f, g, sets-eq x o p (omega arith), e, append_assoc (take p o) x (drop q o))
 
--- ---- what the text says
-abbrev pub tens : ℕ → ℕ
-tens zero = 1
-tens (suc w) = 10 * tens w
-
--- the number that digits say
-abbrev pub value : ℕ → List ℕ → ℕ
-value n [] = n
-value n (d ∷ l) = value (10 * n + (d - 48)) l
-
-value_last : (n : ℕ) (l : List ℕ) (d : ℕ) → value n (l ++ (d ∷ [])) ≡ 10 * value n l + (d - 48)
-value_last n [] d = refl
-value_last n (x ∷ l) d = value_last (10 * n + (x - 48)) l d
-
-value_digits : (w n : ℕ) → n < tens w → value 0 (digits w n) ≡ n
-value_digits zero n h = omega arith
-value_digits (suc w) n h = value_last 0 (digits w (n / 10)) (48 + n % 10) ∙ omega (arith, value_digits w (n / 10) (omega arith))
-
--- a number of 64 bits has as many digits as are written, and they say it
-width_enough : (k n : ℕ) → n < tens (suc k) → n < tens (width_in k n)
-width_enough zero n h = h
-width_enough (suc k) n h =
-    on_lt n 10 (λ s q. rw s (omega arith)) (λ s q. rw s (omega (arith, width_enough k (n / 10) (omega arith))))
-
-pub reads_back : (n : ℕ) → n < tens 20 → value 0 (decimal n) ≡ n
-unfolding decimal width
-reads_back n h = value_digits (width n) n (width_enough 19 n h)
-
--- ---- the digits are those that the library prints
--- n in at most k digits
-abbrev within : ℕ → ℕ → List ℕ
-within zero n = []
-within (suc k) n = digits (width_in k n) n
-
-within_one : (k n : ℕ) → n < 10 → within (suc k) n ≡ (48 + n) ∷ []
-within_one zero n h = ap (λ d. (48 + d) ∷ []) (omega arith)
-within_one (suc k) n h = rw (lt-ltb n 10 h) (ap (λ d. (48 + d) ∷ []) (omega arith))
-
-within_more : (k n : ℕ) → 10 ≤ n → within (suc k) n ≡ within k (n / 10) ++ ((48 + n % 10) ∷ [])
-within_more zero n h = refl
-within_more (suc k) n h = rw (le-ltb n 10 h)
-
-pub decimal_is : (n : ℕ) → n < 2 ^ 64 → printed.decimal n ≡ decimal n
-unfolding decimal width
-decimal_is n h =
-    sym (decimal_from_appends within (record { one = within_one; more = within_more }) 20 n h (length-decimal-le 20 n (omega arith) (omega arith) h))
-
--- ---- the width is that of the power of ten below
-width_in_is : (j k n : ℕ) → k ≤ j → 10 ^ k ≤ n → n < 10 * 10 ^ k → width_in j n ≡ k + 1
-width_in_is zero k n h a b = omega arith
-width_in_is (suc j) zero n h a b = rw (lt-ltb n 10 (omega (arith, b)))
-width_in_is (suc j) (suc k) n h a b =
-    let p : 10 ^ suc k ≡ 10 * 10 ^ k = omega arith in
-    rw (le-ltb n 10 (omega (arith, a, p))) (omega (arith, width_in_is j k (n / 10) (omega arith) (omega (arith, a, p)) (omega (arith, b, p))))
-
-pub width_is : (k n : ℕ) → k < 20 → 10 ^ k ≤ n → n < 10 * 10 ^ k → width n ≡ k + 1
-unfolding width
-width_is k n h a b = width_in_is 19 k n (omega arith) a b
+-- ---- what it says: the digits of a number read back as the number
+pub reads_back : (n : ℕ) → n < 10 ^ 64 → digits_value 10 (decimal n) ≡ n
+reads_back n h = (decimal_is_IsNumeral_wide n h).1

@@ -1,29 +1,28 @@
 // Text in lent bytes: bytes copied, and numbers in decimal digits. A number or a word is stored together with the byte that
 // follows it, a space or the end of the line.
 //
-// There is no `Display`: a contract says what `write!` wrote where it answers Ok, and none that it does where there is room.
+// There is no `Display`: no contract promises that `write!` answers Ok where there is room, only what it wrote where it does.
 // Nor a struct of bytes and place: each contract would also have to say that it still holds the same lent bytes.
 #![tactic(auto)]
 
 ghost use Rattle.std.specs.Prelude.{◌≡◌, [], ◌∷◌, ◌++◌, ◌+◌, ◌≤◌, length};
+ghost use Rattle.std.specs.Fmt.{decimal, signed_decimal};
 ghost use Rattle.std.proofs.Math.IntN.{sub_ℕ};
-ghost use Rattle.text.specs.Decimal.{width, decimal, signed};
 ghost use Rattle.text.specs.Put.{Put};
 
 use itoa::write_digits;
 
 // How many digits n has.
+#[tactic(auto, using(crate::proofs::Numerals::width_told))]
 pub fn width(n: u64) -> usize
-    ensures { (result ≡ width n) × (result ≤ 20) }
+    ensures digits { result ≡ length (decimal n) }
+    ensures short { result ≤ 20 }
 {
-    match n.checked_ilog10() {
-        Some(k) => k as usize + 1,
-        None => 1,
-    }
+    n.checked_ilog10().unwrap_or(0) as usize + 1
 }
 
 // Stores n and the byte after it, and says where the text goes on.
-#[tactic(auto, using(crate::proofs::Numerals::decimal_room))]
+#[tactic(auto, using(std::proofs::lemmas::List::length_push))]
 pub fn put_number(out: &mut [u8], p: usize, n: u64, mark: u8) -> usize
     requires { p + length (decimal n ++ (mark ∷ [])) ≤ length out.old }
     ensures { Put (decimal n ++ (mark ∷ [])) out.old out.new p result }
@@ -36,8 +35,8 @@ pub fn put_number(out: &mut [u8], p: usize, n: u64, mark: u8) -> usize
 
 // Stores a less b, with a minus sign when negative, and the byte after it, and says where the text goes on.
 pub fn put_difference(out: &mut [u8], p: usize, a: u64, b: u64, mark: u8) -> usize
-    requires { p + length (signed (sub_ℕ a b) ++ (mark ∷ [])) ≤ length out.old }
-    ensures { Put (signed (sub_ℕ a b) ++ (mark ∷ [])) out.old out.new p result }
+    requires { p + length (signed_decimal (sub_ℕ a b) ++ (mark ∷ [])) ≤ length out.old }
+    ensures { Put (signed_decimal (sub_ℕ a b) ++ (mark ∷ [])) out.old out.new p result }
 {
     if a < b {
         out[p] = b'-';
