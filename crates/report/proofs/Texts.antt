@@ -13,7 +13,8 @@ use Rattle.text.proofs.Numerals.{decimal_short}
 use Rattle.report.specs.Report.{refused_text, text_by, text_of, input_text, most_room, short_for, WroteText}
 use Rattle.std.proofs.Common.{Result, Ok, Err}
 use Rattle.rules.specs.declared.refusals.Refusal.{Refusal}
-use Rattle.rules.specs.declared.refusals.Refusal.TheVariants.{NoAccount, PastLastDay, BeforeLastEvent, OutOfRange, Closed, WrongService, NoPayment, WrongSum, NotEarned, NothingToArrange, LowArrears, NoticeLive, NoNotice, NoCall, Arranged, Certified, InArrears, DepositShort, TooManyOpen, PastLimit, BadBook, BadRecord, TooShort, NoTariff}
+use Rattle.rules.specs.declared.refusals.Refusal.TheVariants.{TooShort}
+use Rattle.rules.proofs.Numbered.{number_back}
 use Rattle.rules.specs.Refusals.{refusal_number, refusal_of}
 use Rattle.report.proofs.Listing.{listing_length, listing_short, refused_length}
 
@@ -35,36 +36,6 @@ text_sized b = text_by_sized (book_refusal b) b refl
 
 pub input_sized : (b : List ℕ) → SizedText (input_text b)
 input_sized b = on (ltb 65536 (length b)) (λ q. rw q (refused_sized 20 (omega arith))) (λ q. rw q (text_sized b))
-
--- ---- a refusal is known by its number
-of_number : (r : Refusal) → refusal_of (refusal_number r) ≡ r
-of_number NoAccount = refl
-of_number PastLastDay = refl
-of_number BeforeLastEvent = refl
-of_number OutOfRange = refl
-of_number Closed = refl
-of_number WrongService = refl
-of_number NoPayment = refl
-of_number WrongSum = refl
-of_number NotEarned = refl
-of_number NothingToArrange = refl
-of_number LowArrears = refl
-of_number NoticeLive = refl
-of_number NoNotice = refl
-of_number NoCall = refl
-of_number Arranged = refl
-of_number Certified = refl
-of_number InArrears = refl
-of_number DepositShort = refl
-of_number TooManyOpen = refl
-of_number PastLimit = refl
-of_number BadBook = refl
-of_number BadRecord = refl
-of_number TooShort = refl
-of_number NoTariff = refl
-
-number_back : (r s : Refusal) → refusal_number r ≡ refusal_number s → r ≡ s
-number_back r s e = sym (of_number r) ∙ (ap refusal_of e ∙ of_number s)
 
 -- ---- number and bytes are the whole answer
 module _ (text old new : List ℕ) (s : SizedText text) where

@@ -1,5 +1,5 @@
 -- Every number that the table gives is that of a refusal, so that an answer tells it.
-use Rattle.std.proofs.Common.{Result, Ok, Err, ℕ, zero, suc, ◌+◌, ◌<◌, ◌≡◌, Bool, true, false, cond, not, ◌&&◌, List, [], ◌∷◌, length, get_or, eqb, ltb, refl, sym, arith}
+use Rattle.std.proofs.Common.{Result, Ok, Err, ap, ◌∙◌, ℕ, zero, suc, ◌+◌, ◌<◌, ◌≡◌, Bool, true, false, cond, not, ◌&&◌, List, [], ◌∷◌, length, get_or, eqb, ltb, refl, sym, arith}
 use borrow.Author.Tests.{eqb-true, ltb-true}
 use Rattle.std.specs.Result.{result_unwrap_or, is_ok, IsErrAnd}
 use Rattle.std.proofs.lemmas.Bool.{and_parts}
@@ -7,7 +7,7 @@ use Rattle.std.proofs.lemmas.Result.{err_from_is_err_and}
 use Rattle.basics.proofs.Cases.{on}
 use Rattle.std.specs.List.{list_all}
 use Rattle.rules.specs.declared.refusals.Refusal.{Refusal}
-use Rattle.rules.specs.declared.refusals.Refusal.TheVariants.{NoAccount}
+use Rattle.rules.specs.declared.refusals.Refusal.TheVariants.{NoAccount, PastLastDay, BeforeLastEvent, OutOfRange, Closed, WrongService, NoPayment, WrongSum, NotEarned, NothingToArrange, LowArrears, NoticeLive, NoNotice, NoCall, Arranged, Certified, InArrears, DepositShort, TooManyOpen, PastLimit, BadBook, BadRecord, TooShort, NoTariff}
 use Rattle.rules.specs.declared.Event.{Event}
 use Rattle.rules.specs.declared.View.{View}
 use Rattle.rules.specs.Refusals.{refusal_number, refusals, refusal_of}
@@ -32,6 +32,36 @@ read k (r ∷ rs) (suc n) h c =
 pub number_kept : (n : ℕ) → n < length refusals → refusal_number (refusal_of n) ≡ n
 unfolding counted
 number_kept n h = omega (arith, read 0 refusals n h refl)
+
+-- a refusal is known by its number
+of_number : (r : Refusal) → refusal_of (refusal_number r) ≡ r
+of_number NoAccount = refl
+of_number PastLastDay = refl
+of_number BeforeLastEvent = refl
+of_number OutOfRange = refl
+of_number Closed = refl
+of_number WrongService = refl
+of_number NoPayment = refl
+of_number WrongSum = refl
+of_number NotEarned = refl
+of_number NothingToArrange = refl
+of_number LowArrears = refl
+of_number NoticeLive = refl
+of_number NoNotice = refl
+of_number NoCall = refl
+of_number Arranged = refl
+of_number Certified = refl
+of_number InArrears = refl
+of_number DepositShort = refl
+of_number TooManyOpen = refl
+of_number PastLimit = refl
+of_number BadBook = refl
+of_number BadRecord = refl
+of_number TooShort = refl
+of_number NoTariff = refl
+
+pub number_back : (r s : Refusal) → refusal_number r ≡ refusal_number s → r ≡ s
+number_back r s e = sym (of_number r) ∙ (ap refusal_of e ∙ of_number s)
 
 -- an answer by a number of the table tells it, and the value where it is 0
 pub number_answered : {A : Type 0} (n : ℕ) (x : A) → n < length refusals → number_of (answered n x) ≡ n
