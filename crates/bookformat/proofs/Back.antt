@@ -9,6 +9,7 @@ use lib.Dec.{eqb}
 use lib.ListN.{length, take, drop, get_or, length-map}
 use lib.Seq.{take-append_seam}
 use Rattle.rules.specs.declared.Event.{Event}
+use Rattle.std.specs.List.{sum}
 use Rattle.std.proofs.lemmas.Bool.{and_from, and_parts}
 use Rattle.little.specs.Little.{Bytes}
 use Rattle.bookformat.specs.Book.{
@@ -35,7 +36,6 @@ use Rattle.bookformat.specs.Lent.{
   lent,
   lent_at,
   lent_list,
-  counts_total,
   kinds_fine,
   write_refusal,
   kinds_of,
@@ -73,21 +73,15 @@ lent_list_lem l =
 
 -- ---- a list that was read is fit to be written
 
-pub kinds_shift : (n i k : ℕ) (ks : List ℕ) → kinds_fine n (suc i) (k ∷ ks) ≡ kinds_fine n i ks
-kinds_shift zero i k ks = refl
-kinds_shift (suc n) i k ks =
-    let q : suc i + 1 ≡ suc (i + 1) = omega arith in
-    ap (λ x. kind_fine (get_or ks i 0) && x) (ap (λ j. kinds_fine n j (k ∷ ks)) q ∙ kinds_shift n (i + 1) k ks)
-
-kinds_back : (n p : ℕ) (b : List ℕ) → records_fine n p b ≡ true → kinds_fine n 0 (kinds_of (events_at n p b)) ≡ true
+kinds_back : (n p : ℕ) (b : List ℕ) → records_fine n p b ≡ true → kinds_fine (kinds_of (events_at n p b)) ≡ true
 kinds_back zero p b e = refl
 kinds_back (suc n) p b e =
     let k = get_or b p 0 in
     let ks = kinds_of (events_at n (p + 16) b) in
     let f = (and_parts (record_fine p b) (records_fine n (p + 16) b) e).0 in
     let g = (and_parts (record_fine p b) (records_fine n (p + 16) b) e).1 in
-    and_from (kind_fine k) (kinds_fine n 1 (k ∷ ks)) (and_parts (kind_fine k) (eqb (get_or b (p + 2) 0) 0 && eqb (get_or b (p + 3) 0) 0) f).0
-    (kinds_shift n 0 k ks ∙ kinds_back n (p + 16) b g)
+    and_from (kind_fine k) (kinds_fine ks) (and_parts (kind_fine k) (eqb (get_or b (p + 2) 0) 0 && eqb (get_or b (p + 3) 0) 0) f).0
+    (kinds_back n (p + 16) b g)
 
 written_again : (b : List ℕ) (room : ℕ) → book_refusal b ≡ 0 → length b ≤ room
     → write_refusal (map length (decode b)) (kinds_of (flat (decode b))) (options_of (flat (decode b))) (days_of (flat (decode b)))
@@ -104,13 +98,13 @@ written_again b room z h =
     let no : length (options_of es) ≡ r = length-map es (λ e. e.option) ∙ nr in
     let nd : length (days_of es) ≡ r = length-map es (λ e. e.day) ∙ nr in
     let nm : length (amounts_of es) ≡ r = length-map es (λ e. e.amount) ∙ nr in
-    let t : counts_total cs ≡ r = omega (arith, table_total (base a) r a 8 0 b f.entries) in
+    let t : sum cs ≡ r = omega (arith, table_total (base a) r a 8 0 b f.entries) in
     rw ((decode_parts b z).0, (decode_parts b z).1)
     (rw (na, nk, no, nd, nm)
     (rw (
       le-leb a most_accounts f.few,
       le-leb (size a r) longest (omega (arith, f)),
-      eq-eqb (counts_total cs) r t,
+      eq-eqb (sum cs) r t,
       eq-eqb r r refl,
       kinds_back r (base a) b (book_facts b z).1,
       le-leb (size a r) room (omega (arith, f)),

@@ -7,9 +7,10 @@ use borrow.Author.Tests.{le-leb}
 use lib.ListN.{length, take, get_or}
 use lib.Seq.{take-length}
 use Rattle.rules.specs.declared.Event.{Event}
+use Rattle.std.specs.List.{sum}
 use Rattle.little.specs.Little.{top, part, Under}
 use Rattle.bookformat.specs.Book.{size, accounts, records, flat, encode}
-use Rattle.bookformat.specs.Lent.{after, lent, lent_at, lent_list, counts_total, write_refusal, read_refusal, kinds_of, options_of, days_of, amounts_of, Gave}
+use Rattle.bookformat.specs.Lent.{after, lent, lent_at, lent_list, write_refusal, read_refusal, kinds_of, options_of, days_of, amounts_of, Gave}
 use Rattle.bookformat.specs.Facts.{Sizes}
 use Rattle.bookformat.specs.Trips.{ListBack}
 use Rattle.bookformat.proofs.Told.{write_facts}
@@ -25,7 +26,7 @@ length_written cs ks os ds ms room z =
     let l = lent_list cs ks os ds ms in
     let es = lent (length ks) 0 ks os ds ms in
     let n = length_lent (length ks) 0 ks os ds ms in
-    let t : counts_total cs ≡ length es = (write_facts cs ks os ds ms room z).sizes.sum ∙ sym n in
+    let t : sum cs ≡ length es = (write_facts cs ks os ds ms room z).sizes.total ∙ sym n in
     length_book (map length l) (flat l) ∙ ap₂ (λ x y. size (length x) (length y)) (lengths_split cs es t) (flat_split cs es t) ∙ ap (λ k. size (length cs) k) n
 
 -- one field of the records lent is the slice lent for it
@@ -40,8 +41,8 @@ module _ (ks os ds ms : List ℕ) (f : Event → ℕ) (l : List ℕ) (h : (j : �
 -- a list that was accepted, and its book
 module _ (cs ks os ds ms : List ℕ) (room : ℕ) (uo : Under 256 os) (ud : Under (top 4) ds) (um : Under (top 8) ms)
     (z : write_refusal cs ks os ds ms room ≡ 0) where
-  sums : counts_total cs ≡ length (lent (length ks) 0 ks os ds ms)
-  sums = (write_facts cs ks os ds ms room z).sizes.sum ∙ sym (length_lent (length ks) 0 ks os ds ms)
+  sums : sum cs ≡ length (lent (length ks) 0 ks os ds ms)
+  sums = (write_facts cs ks os ds ms room z).sizes.total ∙ sym (length_lent (length ks) 0 ks os ds ms)
 
   back_accounts : accounts (encode (lent_list cs ks os ds ms)) ≡ length cs
   back_accounts =

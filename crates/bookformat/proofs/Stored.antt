@@ -2,16 +2,18 @@
 use mathlib.Core.Bool.{true}
 use mathlib.Core.Path.{◌≡◌, refl, sym, ap, ◌∙◌}
 use mathlib.Core.List.{List, [], ◌∷◌, ◌++◌, map}
-use Prim.Native.Nat.{ℕ, zero, suc, ◌+◌, ◌*◌, ◌≤◌}
+use Prim.Native.Nat.{ℕ, zero, suc, ◌+◌, ◌*◌, ◌≤◌, ◌<◌}
 use native.Mathlib.Omega.{arith}
 use borrow.Author.Tests.{leb-true}
 use lib.Dec.{leb}
 use lib.ListN.{length, get_or, set, length-map}
 use lib.Seq.{sets}
 use Rattle.rules.specs.declared.Event.{Event}
+use Rattle.std.specs.List.{sum}
 use Rattle.rules.specs.Kinds.{closing}
 use Rattle.rules.specs.declared.refusals.Refusal.{Refusal}
 use Rattle.rules.specs.Refusals.{refusal_number}
+use Rattle.rules.specs.Answer.{answered}
 use Rattle.rules.proofs.Numbered.{answered_ok}
 use Rattle.std.specs.Prelude.{Ok, Err}
 use Rattle.std.proofs.lemmas.Bool.{and_parts}
@@ -19,9 +21,8 @@ use Rattle.std.proofs.lemmas.List.{map-append}
 use Rattle.little.specs.Little.{top, Under}
 use Rattle.little.proofs.Stores.{sets_front, sets_then}
 use Rattle.bookformat.specs.Book.{longest, kind_fine, book_refusal, accounts, records, base, events_at, counts_at, decode, book_of, encode}
-use Rattle.bookformat.specs.Lent.{after, kinds_fine, write_refusal, read_refusal, lent, lent_list, counts_total, kinds_of, options_of, days_of, amounts_of, Left, Gave, WroteBook}
+use Rattle.bookformat.specs.Lent.{after, kinds_fine, write_refusal, read_refusal, lent, lent_list, kinds_of, options_of, days_of, amounts_of, Left, Gave, WroteBook}
 use Rattle.bookformat.specs.Facts.{Storable, WriteRoom, Fits}
-use Rattle.bookformat.specs.Answers.{outcome_of}
 use Rattle.bookformat.proofs.Told.{told, unchanged, write_facts, read_in_table, write_in_table}
 use Rattle.bookformat.proofs.Trips.{book_decoded, book_fine, flat_split, lengths_split, decode_parts, length_counts, length_events, length_book}
 
@@ -35,7 +36,7 @@ wrote_all : (cs ks os ds ms old : List ℕ) → WriteRoom cs ks os ds ms (length
 wrote_all cs ks os ds ms old s =
     let es = lent (length ks) 0 ks os ds ms in
     let n = length_lent (length ks) 0 ks os ds ms in
-    let t : counts_total cs ≡ length es = s.sizes.sum ∙ sym n in
+    let t : sum cs ≡ length es = s.sizes.total ∙ sym n in
     rw (lengths_split cs es t, flat_split cs es t)
     (sets_front (book_of cs es) old (omega (arith, length_book cs es, n)))
 
@@ -71,7 +72,7 @@ gave_all b cs ks os ds ms cs2 ks2 os2 ds2 ms2 f c k o d m =
     }
 
 -- reading that is refused leaves all as it was
-pub gave_none : (b cs ks os ds ms : List ℕ) (r : Refusal) → Err r ≡ outcome_of (read_refusal b (length cs) (length ks) (length os) (length ds) (length ms))
+pub gave_none : (b cs ks os ds ms : List ℕ) (r : Refusal) → Err r ≡ answered (read_refusal b (length cs) (length ks) (length os) (length ds) (length ms)) (tt {0})
     → Gave b cs ks os ds ms cs ks os ds ms (refusal_number r)
 gave_none b cs ks os ds ms r e =
     let n = read_refusal b (length cs) (length ks) (length os) (length ds) (length ms) in
@@ -88,13 +89,13 @@ gave_none b cs ks os ds ms r e =
     }
 
 -- and so does writing; what is not refused is stored
-pub wrote_none : (cs ks os ds ms old : List ℕ) (r : Refusal) → Err r ≡ outcome_of (write_refusal cs ks os ds ms (length old))
+pub wrote_none : (cs ks os ds ms old : List ℕ) (r : Refusal) → Err r ≡ answered (write_refusal cs ks os ds ms (length old)) (tt {0})
     → WroteBook cs ks os ds ms old old (refusal_number r)
 wrote_none cs ks os ds ms old r e =
     let t = told (write_refusal cs ks os ds ms (length old)) r (write_in_table cs ks os ds ms (length old)) e in
     record { answer = t.0; bytes = unchanged _ _ old t.1 }
 
-pub wrote_done : (cs ks os ds ms old new : List ℕ) (x : Unit {0}) → Ok x ≡ outcome_of (write_refusal cs ks os ds ms (length old))
+pub wrote_done : (cs ks os ds ms old new : List ℕ) (x : Unit {0}) → Ok x ≡ answered (write_refusal cs ks os ds ms (length old)) (tt {0})
     → new ≡ sets old 0 (book_of cs (lent (length ks) 0 ks os ds ms)) → WroteBook cs ks os ds ms old new 0
 wrote_done cs ks os ds ms old new x e s =
     let z = (answered_ok _ _ _ e).0 in
@@ -106,14 +107,19 @@ wrote_done cs ks os ds ms old new x e s =
 
 -- ---- what is accepted for writing comes back
 
-storable_lent : (n i : ℕ) (ks os ds ms : List ℕ) → kinds_fine n i ks ≡ true → Under 256 os → Under (top 4) ds → Under (top 8) ms
+fine_at : (ks : List ℕ) (i : ℕ) → kinds_fine ks ≡ true → i < length ks → kind_fine (get_or ks i 0) ≡ true
+fine_at [] i e h = absurd (omega arith)
+fine_at (k ∷ ks) zero e h = (and_parts (kind_fine k) (kinds_fine ks) e).0
+fine_at (k ∷ ks) (suc i) e h = fine_at ks i (and_parts (kind_fine k) (kinds_fine ks) e).1 (omega arith)
+
+storable_lent : (n i : ℕ) (ks os ds ms : List ℕ) → kinds_fine ks ≡ true → i + n ≤ length ks → Under 256 os → Under (top 4) ds → Under (top 8) ms
     → Storable (lent n i ks os ds ms)
-storable_lent zero i ks os ds ms e o d m = tt
-storable_lent (suc n) i ks os ds ms e o d m =
+storable_lent zero i ks os ds ms e h o d m = tt
+storable_lent (suc n) i ks os ds ms e h o d m =
     let k = get_or ks i 0 in
-    let f = (and_parts (kind_fine k) (kinds_fine n (i + 1) ks) e).0 in (
+    let f = fine_at ks i e (omega arith) in (
       (leb-true 1 k (and_parts (leb 1 k) (leb k closing) f).0, leb-true k closing (and_parts (leb 1 k) (leb k closing) f).1, o i, d i, m i),
-      storable_lent n (i + 1) ks os ds ms (and_parts (kind_fine k) (kinds_fine n (i + 1) ks) e).1 o d m,
+      storable_lent n (i + 1) ks os ds ms e (omega arith) o d m,
     )
 
 pub written_back : (cs ks os ds ms : List ℕ) (room : ℕ) → Under 256 os → Under (top 4) ds → Under (top 8) ms → write_refusal cs ks os ds ms room ≡ 0
@@ -122,7 +128,7 @@ written_back cs ks os ds ms room o d m e =
     let w = write_facts cs ks os ds ms room e in
     let es = lent (length ks) 0 ks os ds ms in
     let n = length_lent (length ks) 0 ks os ds ms in
-    let t : counts_total cs ≡ length es = w.sizes.sum ∙ sym n in
+    let t : sum cs ≡ length es = w.sizes.total ∙ sym n in
     let s : base (length cs) + 16 * length es ≤ longest = rw n w.sizes.small in
-    let l = storable_lent (length ks) 0 ks os ds ms w.kinds o d m in
+    let l = storable_lent (length ks) 0 ks os ds ms w.kinds (omega arith) o d m in
     rw (lengths_split cs es t, flat_split cs es t) (book_fine cs es w.sizes.few t s l, book_decoded cs es w.sizes.few t s l)

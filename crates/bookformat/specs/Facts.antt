@@ -1,10 +1,11 @@
 -- What the tests tell, as facts.
 use Rattle.std.specs.Prelude.{true, List, [], ◌∷◌, ◌≡◌, ℕ, ◌<◌, ◌≤◌, length}
+use Rattle.std.specs.List.{sum}
 use Rattle.rules.specs.declared.Event.{Event}
 use Rattle.rules.specs.Kinds.{bill, closing}
 use Rattle.little.specs.Little.{top}
 use Rattle.bookformat.specs.Book.{AccountList, flat, base, size, most_accounts, longest, accounts, records, table_fine, book_refusal}
-use Rattle.bookformat.specs.Lent.{counts_total, kinds_fine}
+use Rattle.bookformat.specs.Lent.{kinds_fine}
 
 -- a header that passed
 pub record Header (b : List ℕ) : Type 0 where
@@ -28,7 +29,7 @@ pub record Fits (b : List ℕ) (lc lk lo ld lm : ℕ) : Type 0 where
 pub record Sizes (cs ks os ds ms : List ℕ) : Type 0 where
   pub few : length cs ≤ most_accounts
   pub small : size (length cs) (length ks) ≤ longest
-  pub sum : counts_total cs ≡ length ks
+  pub total : sum cs ≡ length ks
   pub options : length os ≡ length ks
   pub days : length ds ≡ length ks
   pub amounts : length ms ≡ length ks
@@ -36,7 +37,7 @@ pub record Sizes (cs ks os ds ms : List ℕ) : Type 0 where
 -- a list to be written, and output that is long enough
 pub record WriteRoom (cs ks os ds ms : List ℕ) (room : ℕ) : Type 0 where
   pub sizes : Sizes cs ks os ds ms
-  pub kinds : kinds_fine (length ks) 0 ks ≡ true
+  pub kinds : kinds_fine ks ≡ true
   pub within : size (length cs) (length ks) ≤ room
 
 -- every record has one of the sixteen kinds, and its fields fit their bytes

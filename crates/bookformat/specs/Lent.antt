@@ -1,5 +1,6 @@
 -- Account lists in lent memory: the counts of the accounts, and a slice for each field of the records.
-use Rattle.std.specs.Prelude.{Bool, true, cond, ◌&&◌, List, [], ◌∷◌, ◌++◌, map, ◌≡◌, ℕ, zero, suc, ◌+◌, leb, eqb, length, drop, get_or}
+use Rattle.std.specs.Prelude.{Bool, cond, List, [], ◌∷◌, ◌++◌, map, ◌≡◌, ℕ, zero, suc, ◌+◌, leb, eqb, length, drop, get_or}
+use Rattle.std.specs.List.{sum, list_all}
 use Rattle.rules.specs.declared.Event.{Event}
 use Rattle.bookformat.specs.Book.{AccountList, all, size, most_accounts, longest, kind_fine, accounts, records, book_refusal, split, flat, encode, decode}
 
@@ -27,16 +28,12 @@ lent (suc n) i ks os ds ms = lent_at i ks os ds ms ∷ lent n (i + 1) ks os ds m
 abbrev pub lent_list : List ℕ → List ℕ → List ℕ → List ℕ → List ℕ → AccountList
 lent_list cs ks os ds ms = split cs (lent (length ks) 0 ks os ds ms)
 
-abbrev pub counts_total : List ℕ → ℕ
-counts_total [] = 0
-counts_total (c ∷ cs) = c + counts_total cs
-
 -- 20: too many accounts, a book too long, counts that do not come to the records lent, or slices of different lengths
 abbrev pub sizes_tests : List ℕ → List ℕ → List ℕ → List ℕ → List ℕ → List Bool
 sizes_tests cs ks os ds ms =
     leb (length cs) most_accounts
     ∷ leb (size (length cs) (length ks)) longest
-    ∷ eqb (counts_total cs) (length ks)
+    ∷ eqb (sum cs) (length ks)
     ∷ eqb (length os) (length ks)
     ∷ eqb (length ds) (length ks)
     ∷ eqb (length ms) (length ks)
@@ -46,14 +43,13 @@ abbrev pub sizes_fine : List ℕ → List ℕ → List ℕ → List ℕ → List
 sizes_fine cs ks os ds ms = all (sizes_tests cs ks os ds ms)
 
 -- 21: some kind is not known
-abbrev pub kinds_fine : ℕ → ℕ → List ℕ → Bool
-kinds_fine zero i ks = true
-kinds_fine (suc n) i ks = kind_fine (get_or ks i 0) && kinds_fine n (i + 1) ks
+abbrev pub kinds_fine : List ℕ → Bool
+kinds_fine ks = list_all kind_fine ks
 
 -- the number of the refusal for output of room bytes, or 0
 abbrev pub write_refusal : List ℕ → List ℕ → List ℕ → List ℕ → List ℕ → ℕ → ℕ
 write_refusal cs ks os ds ms room =
-    cond (sizes_fine cs ks os ds ms) (cond (kinds_fine (length ks) 0 ks) (cond (leb (size (length cs) (length ks)) room) 0 22) 21) 20
+    cond (sizes_fine cs ks os ds ms) (cond (kinds_fine ks) (cond (leb (size (length cs) (length ks)) room) 0 22) 21) 20
 
 -- what writing does: the number of its answer, and every byte of the output afterwards
 pub record WroteBook (cs ks os ds ms old new : List ℕ) (n : ℕ) : Type 0 where
