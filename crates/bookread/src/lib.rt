@@ -7,7 +7,7 @@ ghost use Rattle.std.proofs.lemmas.List.Edits.{sets};
 ghost use Rattle.rules.specs.Answer.{answered, number_of};
 ghost use Rattle.bookformat.specs.Book.{accounts, events_at, counts_at, decode};
 ghost use Rattle.bookformat.specs.Lent.{kinds_of, options_of, days_of, amounts_of, long_enough, read_refusal, Left, Gave};
-ghost use Rattle.bookread.specs.Memory.{SameSlices};
+ghost use Rattle.bookread.specs.Memory.{columns_of, SameSlices};
 
 use book::Book;
 use bookformat::base;
@@ -27,7 +27,7 @@ pub struct LentMemory<'a> {
 
 // Whether this memory has room for the list of a book that passed.
 fn check_room(book: Book, memory: &LentMemory) -> Result<(), Refusal>
-    ensures { let m = memory.now in result ≡ answered (read_refusal book.entry.bytes.now (length m.counts.now) (length m.kinds.now) (length m.options.now) (length m.days.now) (length m.amounts.now)) tt }
+    ensures { result ≡ answered (read_refusal book.entry.bytes.now (columns_of memory.now)) tt }
 {
     let r = book.records();
     let fits = book.accounts() <= memory.counts.len()
@@ -80,8 +80,8 @@ fn take_records(
 
 // The list of a book that passed, into memory that has room for it.
 fn take_book(book: Book, memory: &mut LentMemory)
-    requires { let m = memory.old in long_enough book.bytes.now (length m.counts.now) (length m.kinds.now) (length m.options.now) (length m.days.now) (length m.amounts.now) ≡ true }
-    ensures left { let m = memory.old in let n = memory.new in Left 0 (decode book.entry.bytes.now) m.counts.now m.kinds.now m.options.now m.days.now m.amounts.now n.counts.now n.kinds.now n.options.now n.days.now n.amounts.now }
+    requires { long_enough book.bytes.now (columns_of memory.old) ≡ true }
+    ensures left { Left 0 (decode book.entry.bytes.now) (columns_of memory.old) (columns_of memory.new) }
     ensures same { SameSlices memory.old memory.new }
 {
     take_counts(book, memory.counts);
@@ -98,8 +98,8 @@ fn take_book(book: Book, memory: &mut LentMemory)
 
 // Reads the account list of a book, or refuses with 20, 21 or 22 and leaves all memory lent as it was.
 pub fn read(b: &[u8], memory: &mut LentMemory) -> Result<(), Refusal>
-    ensures gave { let m = memory.old in let n = memory.new in Gave b.now m.counts.now m.kinds.now m.options.now m.days.now m.amounts.now n.counts.now n.kinds.now n.options.now n.days.now n.amounts.now (number_of result) }
-    ensures outcome { let m = memory.old in result ≡ answered (read_refusal b.now (length m.counts.now) (length m.kinds.now) (length m.options.now) (length m.days.now) (length m.amounts.now)) tt }
+    ensures gave { Gave b.now (columns_of memory.old) (columns_of memory.new) (number_of result) }
+    ensures outcome { result ≡ answered (read_refusal b.now (columns_of memory.old)) tt }
     ensures same { SameSlices memory.old memory.new }
 {
     let book = Book::read(b)?;

@@ -11,6 +11,7 @@ ghost use Rattle.rules.specs.Answer.{answered, number_of};
 ghost use Rattle.bookformat.specs.Book.{most_accounts, base, size, record_bytes, body, account_table, book_of};
 ghost use Rattle.bookformat.specs.Lent.{lent, sizes_fine, kinds_fine, write_refusal, WroteBook};
 ghost use Rattle.bookformat.specs.Facts.{WriteRoom};
+ghost use Rattle.bookwrite.specs.Lists.{columns_of};
 
 use bookformat::{LONGEST, MOST_ACCOUNTS, RECORD, base, kind_fine, size};
 use little::put;
@@ -44,7 +45,7 @@ fn kinds_fine(kinds: &[u8]) -> bool
 
 // The counts and lengths. More records than a book has bytes are too many, so the length of the book can't wrap.
 fn sizes_fine(list: LentList) -> bool
-    ensures { let l = list.entry in result ≡ sizes_fine l.counts.now l.kinds.now l.options.now l.days.now l.amounts.now }
+    ensures { result ≡ sizes_fine (columns_of list.entry) }
 {
     let n = list.kinds.len();
     list.counts.len() <= MOST_ACCOUNTS
@@ -58,7 +59,7 @@ fn sizes_fine(list: LentList) -> bool
 
 // The sizes first, then the kinds, then whether output of room bytes has room for the book.
 fn check(list: LentList, room: usize) -> Result<(), Refusal>
-    ensures { let l = list.entry in result ≡ answered (write_refusal l.counts.now l.kinds.now l.options.now l.days.now l.amounts.now room) tt }
+    ensures { result ≡ answered (write_refusal (columns_of list.entry) room) tt }
 {
     Refusal::BadBook.when(!sizes_fine(list))?;
     Refusal::BadRecord.when(!kinds_fine(list.kinds))?;
@@ -112,7 +113,7 @@ fn put_records(list: LentList, out: &mut [u8], p: usize)
     requires days { length list.days.now ≡ length list.kinds.now }
     requires amounts { length list.amounts.now ≡ length list.kinds.now }
     requires room { p + 16 * length list.kinds.now ≤ length out.old }
-    ensures { let l = list.entry in out.new ≡ sets out.old p (body (lent (length l.kinds.now) 0 l.kinds.now l.options.now l.days.now l.amounts.now)) }
+    ensures { out.new ≡ sets out.old p (body (lent (length list.entry.kinds.now) 0 (columns_of list.entry))) }
 {
     for (i, kind) in list.kinds.iter().enumerate() {
         let e = Event {
@@ -127,8 +128,8 @@ fn put_records(list: LentList, out: &mut [u8], p: usize)
 
 // The book of a list that passed, into output that is long enough.
 fn put_book(list: LentList, out: &mut [u8])
-    requires { WriteRoom list.counts.now list.kinds.now list.options.now list.days.now list.amounts.now (length out.old) }
-    ensures { let l = list.entry in out.new ≡ sets out.old 0 (book_of l.counts.now (lent (length l.kinds.now) 0 l.kinds.now l.options.now l.days.now l.amounts.now)) }
+    requires { WriteRoom (columns_of list) (length out.old) }
+    ensures { let l = list.entry in out.new ≡ sets out.old 0 (book_of l.counts.now (lent (length l.kinds.now) 0 (columns_of l))) }
 {
     put_entry(out, 0, list.counts.len(), list.kinds.len());
     put_table(list.counts, out);
@@ -137,8 +138,8 @@ fn put_book(list: LentList, out: &mut [u8])
 
 // Writes the book of the account list lent and says how long it is, or refuses with 20, 21 or 22 and leaves the output as it was.
 pub fn write(list: LentList, out: &mut [u8]) -> Result<usize, Refusal>
-    ensures wrote_book { let l = list.entry in WroteBook l.counts.now l.kinds.now l.options.now l.days.now l.amounts.now out.old out.new (number_of result) }
-    ensures outcome { let l = list.entry in result ≡ answered (write_refusal l.counts.now l.kinds.now l.options.now l.days.now l.amounts.now (length out.old)) (size (length l.counts.now) (length l.kinds.now)) }
+    ensures wrote_book { WroteBook (columns_of list.entry) out.old out.new (number_of result) }
+    ensures outcome { let l = list.entry in result ≡ answered (write_refusal (columns_of l) (length out.old)) (size (length l.counts.now) (length l.kinds.now)) }
 {
     check(list, out.len())?;
     put_book(list, out);

@@ -17,7 +17,7 @@ use Rattle.rules.proofs.Numbered.{number_kept, answered_err}
 use Rattle.rules.specs.Tariff.{is_class, cents_of, bill_refusal, bill_of}
 use Rattle.tariff.proofs.Law.{allowed, bill_in_range}
 use Rattle.bookformat.specs.Book.{size, book_refusal}
-use Rattle.bookformat.specs.Lent.{sizes_fine, kinds_fine, write_refusal, WroteBook}
+use Rattle.bookformat.specs.Lent.{Columns, sizes_fine, kinds_fine, write_refusal, WroteBook}
 use Rattle.book.specs.declared.Book.{Book}
 use Rattle.bookformat.proofs.Told.{write_facts, book_in_table, write_in_table}
 use Rattle.bookformat.proofs.Forth.{length_written}
@@ -100,13 +100,13 @@ mapped_size n v L (Ok x) (Ok y) q k s = ap Ok (s x y k) ∙ q
 mapped_size n v L (Ok x) (Err e) q k s = absurd k
 mapped_size n v L (Err e) m q k s = k ∙ q
 
-pub stored : (cs ks os ds ms old new : List ℕ) (n w : ℕ) (m : Result ℕ Refusal) → WroteBook cs ks os ds ms old new n
-    → m ≡ answered (write_refusal cs ks os ds ms (length old)) (size (length cs) (length ks)) → w ≡ amount_word m → Stored cs ks os ds ms old new w
-stored cs ks os ds ms old new n w m t e a =
-    let r = write_refusal cs ks os ds ms (length old) in
+pub stored : (lists : Columns) (old new : List ℕ) (n w : ℕ) (m : Result ℕ Refusal) → WroteBook lists old new n
+    → m ≡ answered (write_refusal lists (length old)) (size (length lists.counts) (length lists.kinds)) → w ≡ amount_word m → Stored lists old new w
+stored lists old new n w m t e a =
+    let r = write_refusal lists (length old) in
     record {
-      answer = small_word r _ w m e (write_in_table cs ks os ds ms (length old)) (λ z. omega (arith, (write_facts cs ks os ds ms (length old) z).sizes)) a
-          ∙ same_told r _ _ (λ z. sym (length_written cs ks os ds ms (length old) z));
+      answer = small_word r _ w m e (write_in_table lists (length old)) (λ z. omega (arith, (write_facts lists (length old) z).sizes)) a
+          ∙ same_told r _ _ (λ z. sym (length_written lists (length old) z));
       bytes = t.bytes;
     }
 
@@ -116,16 +116,16 @@ small : (b : Bool) (x k : ℕ) → x ≤ 22 → k ≤ 22 → cond b x k ≤ 22
 small true x k p q = p
 small false x k p q = q
 
-write_small : (cs ks os ds ms : List ℕ) (room : ℕ) → write_refusal cs ks os ds ms room ≤ 22
-write_small cs ks os ds ms room = small (sizes_fine cs ks os ds ms) _ 20 (small (kinds_fine ks) _ 21 (small (leb (size (length cs)
-    (length ks)) room) 0 22 (omega arith) (omega arith)) (omega arith)) (omega arith)
+write_small : (lists : Columns) (room : ℕ) → write_refusal lists room ≤ 22
+write_small lists room = small (sizes_fine lists) _ 20 (small (kinds_fine lists.kinds) _ 21 (small (leb (size (length lists.counts)
+    (length lists.kinds)) room) 0 22 (omega arith) (omega arith)) (omega arith)) (omega arith)
 
 told_taken : (n v k : ℕ) → n ≤ 22 → 256 + k ≡ told n v → (n ≡ 0) × (k ≡ v)
 told_taken zero v k h e = (refl, omega (arith, e))
 told_taken (suc n) v k h e = absurd (omega (arith, e))
 
-pub stored_wrote : (cs ks os ds ms old new : List ℕ) (k : ℕ) → Stored cs ks os ds ms old new (256 + k)
-    → WroteBook cs ks os ds ms old new 0 × (k ≡ size (length cs) (length ks))
-stored_wrote cs ks os ds ms old new k s =
-    let p = told_taken _ _ k (write_small cs ks os ds ms (length old)) s.answer in
-    (record { answer = sym p.0; bytes = s.bytes }, p.1 ∙ length_written cs ks os ds ms (length old) p.0)
+pub stored_wrote : (lists : Columns) (old new : List ℕ) (k : ℕ) → Stored lists old new (256 + k)
+    → WroteBook lists old new 0 × (k ≡ size (length lists.counts) (length lists.kinds))
+stored_wrote lists old new k s =
+    let p = told_taken _ _ k (write_small lists (length old)) s.answer in
+    (record { answer = sym p.0; bytes = s.bytes }, p.1 ∙ length_written lists (length old) p.0)

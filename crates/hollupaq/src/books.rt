@@ -4,7 +4,7 @@ ghost use Rattle.std.specs.Prelude.{◌≡◌};
 ghost use Rattle.bookformat.specs.Book.{accounts, records, book_refusal};
 ghost use Rattle.bookformat.specs.Lent.{Gave};
 ghost use Rattle.hollupaq.specs.Library.{told};
-ghost use Rattle.hollupaq.specs.Books.{Stored};
+ghost use Rattle.hollupaq.specs.Books.{columns, Stored};
 
 use crate::word_of;
 use book::Book;
@@ -38,7 +38,7 @@ pub extern "C" fn hollupaq_book_read(
     days: &mut [u32],
     amounts: &mut [u64],
 ) -> u8
-    ensures { Gave book.now counts.old kinds.old options.old days.old amounts.old counts.new kinds.new options.new days.new amounts.new result }
+    ensures { Gave book.now (columns counts.old kinds.old options.old days.old amounts.old) (columns counts.new kinds.new options.new days.new amounts.new) result }
 {
     let mut memory = LentMemory {
         counts,
@@ -61,7 +61,7 @@ pub extern "C" fn hollupaq_book_write(
     amounts: &[u64],
     out: &mut [u8],
 ) -> u64
-    ensures { Stored counts.now kinds.now options.now days.now amounts.now out.old out.new result }
+    ensures { Stored (columns counts.now kinds.now options.now days.now amounts.now) out.old out.new result }
 {
     let list = LentList {
         counts,

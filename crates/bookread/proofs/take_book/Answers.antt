@@ -4,12 +4,11 @@ use Rattle.bookread.proofs.take_book.Goals as goal
 
 pub returns-clause-left : goal.returns-clause-left
 returns-clause-left c =
-    let m = c.args.memory.now in
     let b = c.args.book in
     let a = c.accounts.ensures.value in
     let r = c.records.ensures.value in
     let p = c.base.ensures in
     let t = c.take_records.ensures in
-    gave_all b.bytes.now m.counts.now m.kinds.now m.options.now m.days.now m.amounts.now _ _ _ _ _ (room_facts b.bytes.now _ _ _ _ _ b.sound c.requires)
+    gave_all b.bytes.now _ _ (room_facts b.bytes.now _ b.sound c.requires)
     c.take_counts.ensures
     (rw (r, p, a) at t.kinds_after) (rw (r, p, a) at t.options_after) (rw (r, p, a) at t.days_after) (rw (r, p, a) at t.amounts_after)
