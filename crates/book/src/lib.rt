@@ -4,8 +4,7 @@
 
 ghost use Rattle.std.specs.Prelude.{◌≡◌, ◌+◌, ◌*◌, ◌<◌, ◌≤◌, length, Err, MatchResult};
 ghost use Rattle.rules.specs.Answer.{answered};
-ghost use Rattle.bookformat.specs.Book.{most_accounts, accounts, base, events_at, record_fine, records_fine, table_fine, header_fine, book_refusal};
-ghost use Rattle.bookformat.specs.Answers.{outcome_of};
+ghost use Rattle.bookformat.specs.Book.{most_accounts, accounts, records, base, record_fine, records_fine, table_fine, header_fine, book_refusal};
 ghost use Rattle.bookformat.specs.Finding.{entries, whole_records, record_at, record_of, span_at, book_account, IsAccount};
 
 use bookformat::walk::Records;
@@ -25,7 +24,7 @@ fn record_fine(b: &[u8], p: usize) -> bool
     kind_fine(b[p]) && b[p + 2] == 0 && b[p + 3] == 0
 }
 
-// The n records from byte p on, in their order.
+// The n records from byte p on, in their order. By their places: no lemma of the library says which slices `chunks_exact` gives.
 fn records_fine(b: &[u8], p: usize, n: usize) -> bool
     requires { p + 16 * n ≤ length b.now }
     ensures { result ≡ records_fine n p b.now }
@@ -35,7 +34,8 @@ fn records_fine(b: &[u8], p: usize, n: usize) -> bool
 
 // The table of a accounts: offsets without gaps, counts that sum to r. The sum of 1,024 counts can't wrap.
 fn table_fine(b: &[u8], a: usize, r: usize) -> bool
-    requires { (base a ≤ length b.now) × (a ≤ most_accounts) }
+    requires whole { base a ≤ length b.now }
+    requires few { a ≤ most_accounts }
     ensures { result ≡ table_fine (base a) r a 8 0 b.now }
 {
     let start = base(a);
@@ -54,7 +54,7 @@ fn table_fine(b: &[u8], a: usize, r: usize) -> bool
 fn header_fine(b: &[u8]) -> bool
     ensures { result ≡ header_fine b.now }
 {
-    if b.len() < HEADER || LONGEST < b.len() {
+    if !(HEADER..=LONGEST).contains(&b.len()) {
         return false;
     }
     let a = accounts(b);
@@ -72,7 +72,8 @@ pub fn check(b: &[u8]) -> Result<(), Refusal>
 
 // How many accounts the table has, 0 where it is not whole.
 fn entries(b: &[u8]) -> usize
-    ensures { (result ≡ entries b.now) × (result < 4294967296) }
+    ensures value { result ≡ entries b.now }
+    ensures small { result < 4294967296 }
 {
     if b.len() < HEADER {
         return 0;
@@ -114,7 +115,7 @@ pub fn account(b: &[u8], i: usize) -> Span
     ensures in_book { book_refusal b.now ≡ 0 → IsAccount b.now i result }
 {
     if entries(b) <= i {
-        return Span { first: 0, count: 0 };
+        return Span::default();
     }
     let at = base(i);
     let offset = get::<4>(b, at) as usize;
@@ -135,7 +136,7 @@ pub struct Book<'a> {
 impl<'a> Book<'a> {
     // The test: the book of the bytes b, or why it is refused.
     pub fn read(b: &'a [u8]) -> Result<Book<'a>, Refusal>
-        ensures { MatchResult result (λ book. book.bytes.now ≡ b.now) (λ refusal. Err refusal ≡ outcome_of (book_refusal b.now)) }
+        ensures { MatchResult result (λ book. book.bytes.now ≡ b.now) (λ refusal. Err refusal ≡ answered (book_refusal b.now) (tt {0})) }
     {
         check(b)?;
         Ok(Book { bytes: b })
@@ -143,9 +144,18 @@ impl<'a> Book<'a> {
 
     // How many accounts it has.
     pub fn accounts(self) -> usize
-        ensures { (result ≡ accounts self.entry.bytes.now) × (result ≤ most_accounts) }
+        ensures value { result ≡ accounts self.entry.bytes.now }
+        ensures few { result ≤ most_accounts }
     {
         accounts(self.bytes)
+    }
+
+    // How many records all its accounts have.
+    pub fn records(self) -> usize
+        ensures value { result ≡ records self.entry.bytes.now }
+        ensures small { result < 4294967296 }
+    {
+        records(self.bytes)
     }
 
     // Where the records of account i are; no records past the end.
@@ -157,17 +167,10 @@ impl<'a> Book<'a> {
 
     // The records of account i, in their order; none past the end.
     pub fn records_of(self, i: usize) -> Records<'a>
-        ensures { events_at result.left result.at result.bytes.now ≡ book_account self.entry.bytes.now i }
+        ensures { result ≡ book_account self.entry.bytes.now i }
     {
         let s = self.account(i);
         let start = base(self.accounts()) + RECORD * s.first;
         Records::new(self.bytes, start, s.count)
-    }
-
-    // Record k, counted over all accounts; a record of kind 0 past the end.
-    pub fn record(self, k: usize) -> Event
-        ensures { result ≡ record_of self.entry.bytes.now k }
-    {
-        record(self.bytes, k)
     }
 }

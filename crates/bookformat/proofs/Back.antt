@@ -9,6 +9,7 @@ use lib.Dec.{eqb}
 use lib.ListN.{length, take, drop, get_or, length-map}
 use lib.Seq.{take-append_seam}
 use Rattle.rules.specs.declared.Event.{Event}
+use Rattle.std.specs.List.{sum}
 use Rattle.std.proofs.lemmas.Bool.{and_from, and_parts}
 use Rattle.little.specs.Little.{Bytes}
 use Rattle.bookformat.specs.Book.{
@@ -31,11 +32,11 @@ use Rattle.bookformat.specs.Book.{
   decode,
 }
 use Rattle.bookformat.specs.Lent.{
+  Columns,
   after,
   lent,
   lent_at,
   lent_list,
-  counts_total,
   kinds_fine,
   write_refusal,
   kinds_of,
@@ -52,46 +53,62 @@ use Rattle.bookformat.proofs.Trips.{decode_parts, table_total, length_counts, le
 
 -- ---- the fields of records, as lists
 
-lent_shift : (n i k o d m : ℕ) (ks os ds ms : List ℕ) → lent n (suc i) (k ∷ ks) (o ∷ os) (d ∷ ds) (m ∷ ms) ≡ lent n i ks os ds ms
-lent_shift zero i k o d m ks os ds ms = refl
-lent_shift (suc n) i k o d m ks os ds ms =
+lent_shift : (n i c k o d m : ℕ) (lists : Columns)
+    → lent n (suc i) (record {
+      counts = c ∷ lists.counts;
+      kinds = k ∷ lists.kinds;
+      options = o ∷ lists.options;
+      days = d ∷ lists.days;
+      amounts = m ∷ lists.amounts;
+    }) ≡ lent n i lists
+lent_shift zero i c k o d m lists = refl
+lent_shift (suc n) i c k o d m lists =
     let q : suc i + 1 ≡ suc (i + 1) = omega arith in
-    ap (λ l. lent_at i ks os ds ms ∷ l) (ap (λ j. lent n j (k ∷ ks) (o ∷ os) (d ∷ ds) (m ∷ ms)) q ∙ lent_shift n (i + 1) k o d m ks os ds ms)
+    ap (λ l. lent_at i lists ∷ l) (ap (λ j. lent n j (record {
+      counts = c ∷ lists.counts;
+      kinds = k ∷ lists.kinds;
+      options = o ∷ lists.options;
+      days = d ∷ lists.days;
+      amounts = m ∷ lists.amounts;
+    })) q ∙ lent_shift n (i + 1) c k o d m lists)
 
-lent_of : (es : List Event) → lent (length es) 0 (kinds_of es) (options_of es) (days_of es) (amounts_of es) ≡ es
-lent_of [] = refl
-lent_of (e ∷ es) =
-    ap (λ l. e ∷ l) (lent_shift (length es) 0 e.kind e.option e.day e.amount (kinds_of es) (options_of es) (days_of es) (amounts_of es) ∙ lent_of es)
+-- the lists of an account list, and the same of these counts and these records
+abbrev parts_of : List ℕ → List Event → Columns
+parts_of cs es = record { counts = cs; kinds = kinds_of es; options = options_of es; days = days_of es; amounts = amounts_of es }
+
+abbrev columns : AccountList → Columns
+columns l = parts_of (map length l) (flat l)
+
+lent_counts : (n i : ℕ) (xs ys : List ℕ) (es : List Event) → lent n i (parts_of xs es) ≡ lent n i (parts_of ys es)
+lent_counts zero i xs ys es = refl
+lent_counts (suc n) i xs ys es = ap (λ l. lent_at i (parts_of xs es) ∷ l) (lent_counts n (i + 1) xs ys es)
+
+lent_of : (cs : List ℕ) (es : List Event) → lent (length es) 0 (parts_of cs es) ≡ es
+lent_of cs [] = refl
+lent_of cs (e ∷ es) =
+    ap (λ l. e ∷ l) (lent_counts (length es) 1 cs (0 ∷ cs) (e ∷ es) ∙ lent_shift (length es) 0 0 e.kind e.option e.day e.amount (parts_of cs es) ∙ lent_of cs es)
 
 -- an account list in memory is that list
-lent_list_lem : (l : AccountList) → lent_list (map length l) (kinds_of (flat l)) (options_of (flat l)) (days_of (flat l)) (amounts_of (flat l)) ≡ l
+lent_list_lem : (l : AccountList) → lent_list (columns l) ≡ l
 lent_list_lem l =
     let es = flat l in
-    ap (λ n. split (map length l) (lent n 0 (kinds_of es) (options_of es) (days_of es) (amounts_of es))) (length-map es (λ e. e.kind))
-    ∙ ap (λ x. split (map length l) x) (lent_of es)
+    ap (λ n. split (map length l) (lent n 0 (columns l))) (length-map es (λ e. e.kind))
+    ∙ ap (λ x. split (map length l) x) (lent_of (map length l) es)
     ∙ split_flat l
 
 -- ---- a list that was read is fit to be written
 
-pub kinds_shift : (n i k : ℕ) (ks : List ℕ) → kinds_fine n (suc i) (k ∷ ks) ≡ kinds_fine n i ks
-kinds_shift zero i k ks = refl
-kinds_shift (suc n) i k ks =
-    let q : suc i + 1 ≡ suc (i + 1) = omega arith in
-    ap (λ x. kind_fine (get_or ks i 0) && x) (ap (λ j. kinds_fine n j (k ∷ ks)) q ∙ kinds_shift n (i + 1) k ks)
-
-kinds_back : (n p : ℕ) (b : List ℕ) → records_fine n p b ≡ true → kinds_fine n 0 (kinds_of (events_at n p b)) ≡ true
+kinds_back : (n p : ℕ) (b : List ℕ) → records_fine n p b ≡ true → kinds_fine (kinds_of (events_at n p b)) ≡ true
 kinds_back zero p b e = refl
 kinds_back (suc n) p b e =
     let k = get_or b p 0 in
     let ks = kinds_of (events_at n (p + 16) b) in
     let f = (and_parts (record_fine p b) (records_fine n (p + 16) b) e).0 in
     let g = (and_parts (record_fine p b) (records_fine n (p + 16) b) e).1 in
-    and_from (kind_fine k) (kinds_fine n 1 (k ∷ ks)) (and_parts (kind_fine k) (eqb (get_or b (p + 2) 0) 0 && eqb (get_or b (p + 3) 0) 0) f).0
-    (kinds_shift n 0 k ks ∙ kinds_back n (p + 16) b g)
+    and_from (kind_fine k) (kinds_fine ks) (and_parts (kind_fine k) (eqb (get_or b (p + 2) 0) 0 && eqb (get_or b (p + 3) 0) 0) f).0
+    (kinds_back n (p + 16) b g)
 
-written_again : (b : List ℕ) (room : ℕ) → book_refusal b ≡ 0 → length b ≤ room
-    → write_refusal (map length (decode b)) (kinds_of (flat (decode b))) (options_of (flat (decode b))) (days_of (flat (decode b)))
-    (amounts_of (flat (decode b))) room ≡ 0
+written_again : (b : List ℕ) (room : ℕ) → book_refusal b ≡ 0 → length b ≤ room → write_refusal (columns (decode b)) room ≡ 0
 written_again b room z h =
     let f : Header b = (book_facts b z).0 in
     let a = accounts b in
@@ -104,13 +121,13 @@ written_again b room z h =
     let no : length (options_of es) ≡ r = length-map es (λ e. e.option) ∙ nr in
     let nd : length (days_of es) ≡ r = length-map es (λ e. e.day) ∙ nr in
     let nm : length (amounts_of es) ≡ r = length-map es (λ e. e.amount) ∙ nr in
-    let t : counts_total cs ≡ r = omega (arith, table_total (base a) r a 8 0 b f.entries) in
+    let t : sum cs ≡ r = omega (arith, table_total (base a) r a 8 0 b f.entries) in
     rw ((decode_parts b z).0, (decode_parts b z).1)
     (rw (na, nk, no, nd, nm)
     (rw (
       le-leb a most_accounts f.few,
       le-leb (size a r) longest (omega (arith, f)),
-      eq-eqb (counts_total cs) r t,
+      eq-eqb (sum cs) r t,
       eq-eqb r r refl,
       kinds_back r (base a) b (book_facts b z).1,
       le-leb (size a r) room (omega (arith, f)),
@@ -122,26 +139,26 @@ pub front : (n : ℕ) (new old : List ℕ) → length new ≡ n → take n (afte
 front n new old e = rw (← e) (take-append_seam new (drop (length new) old))
 
 pub book_back : (b : List ℕ) → Bytes b → BookBack b
-book_back b t cs ks os ds ms cs2 ks2 os2 ds2 ms2 old new n given w h =
+book_back b t memory read old new n given w h =
     let y = sym given.answer in
-    let z = (read_facts b (length cs) (length ks) (length os) (length ds) (length ms) y).refusal in
-    let m : Left 0 (decode b) cs ks os ds ms cs2 ks2 os2 ds2 ms2 = rw y at given.memory in
+    let z = (read_facts b memory y).refusal in
+    let m : Left 0 (decode b) memory read = rw y at given.memory in
     let l = decode b in
     let es = flat l in
     let na : length (map length l) ≡ accounts b = ap length (decode_parts b z).0 ∙ length_counts (accounts b) 8 b in
     let nr : length es ≡ records b = ap length (decode_parts b z).1 ∙ length_events (records b) (base (accounts b)) b in
-    let ec : take (accounts b) cs2 ≡ map length l = ap (λ x. take (accounts b) x) m.counts ∙ front (accounts b) (map length l) cs na in
-    let ek : take (records b) ks2 ≡ kinds_of es = ap (λ x. take (records b) x) m.kinds
-    ∙ front (records b) (kinds_of es) ks (length-map es (λ e. e.kind) ∙ nr) in
-    let eo : take (records b) os2 ≡ options_of es = ap (λ x. take (records b) x) m.options
-    ∙ front (records b) (options_of es) os (length-map es (λ e. e.option) ∙ nr) in
-    let ed : take (records b) ds2 ≡ days_of es = ap (λ x. take (records b) x) m.days ∙ front (records b) (days_of es) ds (length-map es (λ e. e.day) ∙ nr) in
-    let em : take (records b) ms2 ≡ amounts_of es = ap (λ x. take (records b) x) m.amounts
-    ∙ front (records b) (amounts_of es) ms (length-map es (λ e. e.amount) ∙ nr) in
-    let w2 : WroteBook (map length l) (kinds_of es) (options_of es) (days_of es) (amounts_of es) old new n = rw (ec, ek, eo, ed, em) at w in
+    let ec : take (accounts b) read.counts ≡ map length l = ap (λ x. take (accounts b) x) m.counts ∙ front (accounts b) (map length l) memory.counts na in
+    let ek : take (records b) read.kinds ≡ kinds_of es = ap (λ x. take (records b) x) m.kinds
+    ∙ front (records b) (kinds_of es) memory.kinds (length-map es (λ e. e.kind) ∙ nr) in
+    let eo : take (records b) read.options ≡ options_of es = ap (λ x. take (records b) x) m.options
+    ∙ front (records b) (options_of es) memory.options (length-map es (λ e. e.option) ∙ nr) in
+    let ed : take (records b) read.days ≡ days_of es = ap (λ x. take (records b) x) m.days
+    ∙ front (records b) (days_of es) memory.days (length-map es (λ e. e.day) ∙ nr) in
+    let em : take (records b) read.amounts ≡ amounts_of es = ap (λ x. take (records b) x) m.amounts
+    ∙ front (records b) (amounts_of es) memory.amounts (length-map es (λ e. e.amount) ∙ nr) in
+    let w2 : WroteBook (columns l) old new n = rw (ec, ek, eo, ed, em) at w in
     let g = written_again b (length old) z h in
     let s = ap encode (lent_list_lem l) ∙ encode_decode b t z in (
       w2.answer ∙ g,
-      w2.bytes ∙ ap (λ k. after k (encode (lent_list (map length l) (kinds_of es) (options_of es) (days_of es) (amounts_of es))) old) g
-          ∙ ap (λ x. after 0 x old) s,
+      w2.bytes ∙ ap (λ k. after k (encode (lent_list (columns l))) old) g ∙ ap (λ x. after 0 x old) s,
     )

@@ -1,4 +1,4 @@
--- What a loop over the records of a book is given: the events that its iterator has left, and their places under `enumerate`.
+-- What a loop over the records of a book is given: their places under `enumerate`.
 use mathlib.Core.Path.{◌≡◌, ap}
 use mathlib.Core.List.{List, [], ◌∷◌, ◌++◌, map}
 use Prim.Native.Nat.{ℕ, ◌+◌}
@@ -9,11 +9,6 @@ use Rattle.std.specs.Iterator.{Yields, YieldsFirst}
 use Rattle.std.specs.Iterator.Adapters.{enumerate_count, enumerate_steps}
 use Rattle.std.proofs.lemmas.List.{map-append}
 use Rattle.rules.specs.declared.Event.{Event}
-use Rattle.bookformat.specs.declared.walk.Records.{Records}
-use Rattle.bookformat.specs.Book.{events_at}
-
-abbrev pub events_left : Records → List Event
-events_left s = events_at s.left s.at s.bytes.now
 
 -- the events of numbered records
 abbrev pub unnumbered : List (ℕ × Event) → List Event
@@ -23,7 +18,7 @@ pub unnumbered_more : (xs : List (ℕ × Event)) (x : ℕ × Event) → unnumber
 unnumbered_more xs x = map-append (λ p. p.1) xs (x ∷ [])
 
 -- a record is numbered by those before it
-pub numbered : (s t : Enumerate Records) (xs : List (ℕ × Event)) → Yields (enumerate_steps (YieldsFirst events_left)) s xs t
+pub numbered : (s t : Enumerate (List Event)) (xs : List (ℕ × Event)) → Yields (enumerate_steps (YieldsFirst (λ rest. rest))) s xs t
     → enumerate_count t ≡ enumerate_count s + length (unnumbered xs)
 numbered s t [] y = omega (arith, ap enumerate_count y)
 numbered s t (x ∷ xs) y = omega (arith, y.1.2, numbered y.0 t xs y.2)

@@ -11,7 +11,7 @@ use lib.ListN.{length, set, replicate, take}
 use Rattle.basics.proofs.Cases.{on}
 use Rattle.little.specs.Little.{num, un, le}
 use Rattle.bookformat.specs.Book.{AccountList, size, accounts, book_refusal, encode, decode}
-use Rattle.bookformat.specs.Lent.{write_refusal, read_refusal}
+use Rattle.bookformat.specs.Lent.{Columns, write_refusal, read_refusal}
 use Rattle.bookformat.specs.Finding.{record_at, span_at}
 
 -- ---- one book in full
@@ -113,7 +113,8 @@ books =
 
 -- counts, kinds, and how many options, days and amounts are lent
 abbrev writes : List ℕ → List ℕ → ℕ → ℕ → ℕ → ℕ → ℕ
-writes cs ks o d m room = write_refusal cs ks (replicate o 0) (replicate d 0) (replicate m 0) room
+writes cs ks o d m room =
+    write_refusal (record { counts = cs; kinds = ks; options = replicate o 0; days = replicate d 0; amounts = replicate m 0 }) room
 
 abbrev lists : List Sample
 lists =
@@ -137,17 +138,22 @@ lists =
     ∷ case "21 before 22" (writes (2 ∷ []) (17 ∷ 1 ∷ []) 2 2 2 0) 21
     ∷ []
 
+-- how many counts, kinds, options, days and amounts are lent
+abbrev reads : List ℕ → ℕ → ℕ → ℕ → ℕ → ℕ → ℕ
+reads b c k o d m =
+    read_refusal b (record { counts = replicate c 0; kinds = replicate k 0; options = replicate o 0; days = replicate d 0; amounts = replicate m 0 })
+
 abbrev memory : List Sample
 memory =
-    case "just enough" (read_refusal book 3 2 2 2 2) 0
-    ∷ case "more than enough" (read_refusal book 4 5 6 7 8) 0
-    ∷ case "a count short" (read_refusal book 2 2 2 2 2) 22
-    ∷ case "a kind short" (read_refusal book 3 1 2 2 2) 22
-    ∷ case "an option short" (read_refusal book 3 2 1 2 2) 22
-    ∷ case "a day short" (read_refusal book 3 2 2 1 2) 22
-    ∷ case "an amount short" (read_refusal book 3 2 2 2 1) 22
-    ∷ case "20 before 22" (read_refusal (take 63 book) 0 0 0 0 0) 20
-    ∷ case "21 before 22" (read_refusal (set book 32 17) 0 0 0 0 0) 21
+    case "just enough" (reads book 3 2 2 2 2) 0
+    ∷ case "more than enough" (reads book 4 5 6 7 8) 0
+    ∷ case "a count short" (reads book 2 2 2 2 2) 22
+    ∷ case "a kind short" (reads book 3 1 2 2 2) 22
+    ∷ case "an option short" (reads book 3 2 1 2 2) 22
+    ∷ case "a day short" (reads book 3 2 2 1 2) 22
+    ∷ case "an amount short" (reads book 3 2 2 2 1) 22
+    ∷ case "20 before 22" (reads (take 63 book) 0 0 0 0 0) 20
+    ∷ case "21 before 22" (reads (set book 32 17) 0 0 0 0 0) 21
     ∷ []
 
 abbrev places : List Sample
@@ -181,7 +187,7 @@ too_long b h =
     let t = lt-leb (length b) 4294967295 h in
     on (leb 8 (length b)) (λ x. rw (x, t)) (λ x. rw x)
 
-pub too_long_to_write : (cs ks os ds ms : List ℕ) (room : ℕ) → 4294967295 < size (length cs) (length ks) → write_refusal cs ks os ds ms room ≡ 20
-too_long_to_write cs ks os ds ms room h =
-    let t = lt-leb (size (length cs) (length ks)) 4294967295 h in
-    on (leb (length cs) 1024) (λ x. rw (x, t)) (λ x. rw x)
+pub too_long_to_write : (lists : Columns) (room : ℕ) → 4294967295 < size (length lists.counts) (length lists.kinds) → write_refusal lists room ≡ 20
+too_long_to_write lists room h =
+    let t = lt-leb (size (length lists.counts) (length lists.kinds)) 4294967295 h in
+    on (leb (length lists.counts) 1024) (λ x. rw (x, t)) (λ x. rw x)

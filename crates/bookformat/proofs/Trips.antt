@@ -10,7 +10,10 @@ use lib.Dec.{eqb}
 use lib.ListN.{length, take, drop, get_or, length-append, length-take, length-drop, length-map, take-append-drop}
 use lib.Seq.{take-add, get_or_at, drop-drop, drop-cons, take-length, take-append_seam, drop-append_seam, get_or-append-add}
 use Rattle.rules.specs.declared.Event.{Event}
+use Rattle.std.specs.List.{sum}
 use Rattle.std.proofs.lemmas.Bool.{and_parts}
+use Rattle.std.proofs.lemmas.List.{nil_from_length}
+use Rattle.std.proofs.lemmas.List.Sums.{sum_by-cons}
 use Rattle.little.specs.Little.{le, num, part, top, Bytes}
 use Rattle.little.proofs.Numbers.{le_num, num_at, length_le}
 use Rattle.bookformat.specs.Book.{
@@ -37,14 +40,13 @@ use Rattle.bookformat.specs.Book.{
   book_of,
   encode,
 }
-use Rattle.bookformat.specs.Lent.{counts_total}
 use Rattle.bookformat.specs.Facts.{Header, Storable, Writable}
 use Rattle.bookformat.proofs.Tests.{and_on}
 use Rattle.bookformat.proofs.Told.{book_facts}
 
 -- ---- parts of a list
 
-pub part_add : (n m p : ℕ) (b : List ℕ) → part (n + m) p b ≡ part n p b ++ part m (p + n) b
+part_add : (n m p : ℕ) (b : List ℕ) → part (n + m) p b ≡ part n p b ++ part m (p + n) b
 part_add n m p b = rw (take-add n m (drop p b), drop-drop n p b)
 
 pub part_cons : (w p q : ℕ) (b : List ℕ) → p < length b → q ≡ p + 1 → part (suc w) p b ≡ get_or b p 0 ∷ part w q b
@@ -55,16 +57,16 @@ get_or_in x y p i e = rw (← e) (get_or-append-add x y i 0)
 
 -- ---- an accepted book, decoded and encoded
 
-table_back : (start r n p sum : ℕ) (b : List ℕ) → Bytes b → p + 8 * n ≤ length b → table_fine start r n p sum b ≡ true
-    → account_table (start + 16 * sum) (counts_at n p b) ≡ part (8 * n) p b
-table_back start r zero p sum b t h e = refl
-table_back start r (suc n) p sum b t h e =
+table_back : (start r n p before : ℕ) (b : List ℕ) → Bytes b → p + 8 * n ≤ length b → table_fine start r n p before b ≡ true
+    → account_table (start + 16 * before) (counts_at n p b) ≡ part (8 * n) p b
+table_back start r zero p before b t h e = refl
+table_back start r (suc n) p before b t h e =
     let c = num 4 (p + 4) b in
-    let q : num 4 p b ≡ start + 16 * sum = eqb-true _ _ (and_parts (eqb (num 4 p b) (start + 16 * sum)) (table_fine start r n (p + 8) (sum + c) b) e).0 in
-    let i = table_back start r n (p + 8) (sum + c) b t (omega arith)
-    (and_parts (eqb (num 4 p b) (start + 16 * sum)) (table_fine start r n (p + 8) (sum + c) b) e).1 in
+    let q : num 4 p b ≡ start + 16 * before = eqb-true _ _ (and_parts (eqb (num 4 p b) (start + 16 * before)) (table_fine start r n (p + 8) (before + c) b) e).0 in
+    let i = table_back start r n (p + 8) (before + c) b t (omega arith)
+    (and_parts (eqb (num 4 p b) (start + 16 * before)) (table_fine start r n (p + 8) (before + c) b) e).1 in
     let k : 8 * suc n ≡ 4 + (4 + 8 * n) = omega arith in
-    let s : start + 16 * sum + 16 * c ≡ start + 16 * (sum + c) = omega arith in
+    let s : start + 16 * before + 16 * c ≡ start + 16 * (before + c) = omega arith in
     let m : p + 4 + 4 ≡ p + 8 = omega arith in
     rw (k, part_add 4 (4 + 8 * n) p b, part_add 4 (8 * n) (p + 4) b, m, s, i, ← q, le_num 4 p b (omega arith) t, le_num 4 (p + 4) b (omega arith) t)
 
@@ -97,11 +99,11 @@ body_back (suc n) p b t h e =
     (ap₂ (λ x y. x ++ y) (record_back p b t (omega arith) (and_parts (record_fine p b) (records_fine n (p + 16) b) e).0)
     (body_back n (p + 16) b t (omega arith) (and_parts (record_fine p b) (records_fine n (p + 16) b) e).1))
 
-pub table_total : (start r n p sum : ℕ) (b : List ℕ) → table_fine start r n p sum b ≡ true → sum + counts_total (counts_at n p b) ≡ r
-table_total start r zero p sum b e = omega (arith, eqb-true sum r e)
-table_total start r (suc n) p sum b e =
+pub table_total : (start r n p before : ℕ) (b : List ℕ) → table_fine start r n p before b ≡ true → before + sum (counts_at n p b) ≡ r
+table_total start r zero p before b e = omega (arith, eqb-true before r e)
+table_total start r (suc n) p before b e =
     let c = num 4 (p + 4) b in
-    omega (arith, table_total start r n (p + 8) (sum + c) b (and_parts (eqb (num 4 p b) (start + 16 * sum)) (table_fine start r n (p + 8) (sum + c) b) e).1)
+    omega (arith, sum_by-cons (λ x. x) c (counts_at n (p + 8) b), table_total start r n (p + 8) (before + c) b (and_parts (eqb (num 4 p b) (start + 16 * before)) (table_fine start r n (p + 8) (before + c) b) e).1)
 
 pub length_counts : (n p : ℕ) (b : List ℕ) → length (counts_at n p b) ≡ n
 length_counts zero p b = refl
@@ -111,19 +113,18 @@ pub length_events : (n p : ℕ) (b : List ℕ) → length (events_at n p b) ≡ 
 length_events zero p b = refl
 length_events (suc n) p b = ap suc (length_events n (p + 16) b)
 
-nil_of : (l : List Event) → 0 ≡ length l → [] ≡ l
-nil_of [] e = refl
-nil_of (x ∷ l) e = absurd (omega arith)
+pub flat_split : (cs : List ℕ) (es : List Event) → sum cs ≡ length es → flat (split cs es) ≡ es
+flat_split [] es e = sym (nil_from_length es (sym e))
+flat_split (c ∷ cs) es e =
+    let s = sum_by-cons (λ x. x) c cs in
+    rw (flat_split cs (drop c es) (simp length-drop (omega (arith, s)))) (take-append-drop c es)
 
-pub flat_split : (cs : List ℕ) (es : List Event) → counts_total cs ≡ length es → flat (split cs es) ≡ es
-flat_split [] es e = nil_of es e
-flat_split (c ∷ cs) es e = rw (flat_split cs (drop c es) (simp length-drop (omega arith))) (take-append-drop c es)
-
-pub lengths_split : (cs : List ℕ) (es : List Event) → counts_total cs ≡ length es → map length (split cs es) ≡ cs
+pub lengths_split : (cs : List ℕ) (es : List Event) → sum cs ≡ length es → map length (split cs es) ≡ cs
 lengths_split [] es e = refl
 lengths_split (c ∷ cs) es e =
-    let k : length (take c es) ≡ c = simp length-take (omega arith) in
-    rw (k, lengths_split cs (drop c es) (simp length-drop (omega arith)))
+    let s = sum_by-cons (λ x. x) c cs in
+    let k : length (take c es) ≡ c = simp length-take (omega (arith, s)) in
+    rw (k, lengths_split cs (drop c es) (simp length-drop (omega (arith, s))))
 
 -- the counts and the events of an accepted book's list
 pub decode_parts : (b : List ℕ) → book_refusal b ≡ 0
@@ -133,7 +134,7 @@ decode_parts b z =
     let r = records b in
     let cs = counts_at a 8 b in
     let es = events_at r (base a) b in
-    let tt : counts_total cs ≡ length es = omega (arith, table_total (base a) r a 8 0 b (book_facts b z).0.entries, length_events r (base a) b) in
+    let tt : sum cs ≡ length es = omega (arith, table_total (base a) r a 8 0 b (book_facts b z).0.entries, length_events r (base a) b) in
     (lengths_split cs es tt, flat_split cs es tt)
 
 -- THE FIRST ROUND TRIP: an accepted book, decoded and encoded, is the same bytes
@@ -158,26 +159,28 @@ encode_decode b t z =
 
 -- ---- an account list, encoded and decoded
 
-counts_at_lem : (cs : List ℕ) (off p : ℕ) (x z : List ℕ) → length x ≡ p → counts_total cs < top 4 → counts_at (length cs) p (x ++ (account_table off cs ++ z)) ≡ cs
+counts_at_lem : (cs : List ℕ) (off p : ℕ) (x z : List ℕ) → length x ≡ p → sum cs < top 4 → counts_at (length cs) p (x ++ (account_table off cs ++ z)) ≡ cs
 counts_at_lem [] off p x z e h = refl
 counts_at_lem (c ∷ cs) off p x z e h =
+    let s = sum_by-cons (λ x. x) c cs in
     let n1 = simp append_assoc at
-    (num_at 4 c (p + 4) (x ++ le 4 off) (account_table (off + 16 * c) cs ++ z) (simp (length-append, length_le) (omega arith)) (omega arith)) in
+    (num_at 4 c (p + 4) (x ++ le 4 off) (account_table (off + 16 * c) cs ++ z) (simp (length-append, length_le) (omega arith)) (omega (arith, s))) in
     let n2 = simp append_assoc at
-    (counts_at_lem cs (off + 16 * c) (p + 8) (x ++ (le 4 off ++ le 4 c)) z (simp (length-append, length_le) (omega arith)) (omega arith)) in
+    (counts_at_lem cs (off + 16 * c) (p + 8) (x ++ (le 4 off ++ le 4 c)) z (simp (length-append, length_le) (omega arith)) (omega (arith, s))) in
     simp append_assoc (ap₂ (λ a b. a ∷ b) n1 n2)
 
-table_at : (cs : List ℕ) (start r p sum : ℕ) (x z : List ℕ) → length x ≡ p → sum + counts_total cs ≡ r → start + 16 * r < top 4
-    → table_fine start r (length cs) p sum (x ++ (account_table (start + 16 * sum) cs ++ z)) ≡ true
-table_at [] start r p sum x z e f h = eq-eqb sum r (omega arith)
-table_at (c ∷ cs) start r p sum x z e f h =
-    let o = start + 16 * sum in
-    let s : start + 16 * (sum + c) ≡ o + 16 * c = omega arith in
+table_at : (cs : List ℕ) (start r p before : ℕ) (x z : List ℕ) → length x ≡ p → before + sum cs ≡ r → start + 16 * r < top 4
+    → table_fine start r (length cs) p before (x ++ (account_table (start + 16 * before) cs ++ z)) ≡ true
+table_at [] start r p before x z e f h = eq-eqb before r (omega arith)
+table_at (c ∷ cs) start r p before x z e f h =
+    let o = start + 16 * before in
+    let sums = sum_by-cons (λ x. x) c cs in
+    let s : start + 16 * (before + c) ≡ o + 16 * c = omega arith in
     let n0 = num_at 4 o p x (le 4 c ++ (account_table (o + 16 * c) cs ++ z)) e (omega arith) in
     let n1 = simp append_assoc at
-    (num_at 4 c (p + 4) (x ++ le 4 o) (account_table (o + 16 * c) cs ++ z) (simp (length-append, length_le) (omega arith)) (omega arith)) in
+    (num_at 4 c (p + 4) (x ++ le 4 o) (account_table (o + 16 * c) cs ++ z) (simp (length-append, length_le) (omega arith)) (omega (arith, sums))) in
     let n2 = simp append_assoc at
-    (rw s at (table_at cs start r (p + 8) (sum + c) (x ++ (le 4 o ++ le 4 c)) z (simp (length-append, length_le) (omega arith)) (omega arith) h)) in
+    (rw s at (table_at cs start r (p + 8) (before + c) (x ++ (le 4 o ++ le 4 c)) z (simp (length-append, length_le) (omega arith)) (omega (arith, sums)) h)) in
     simp append_assoc (rw n1 (and_on _ _ (eq-eqb _ _ n0) ∙ n2))
 
 events_at_lem : (es : List Event) (p : ℕ) (x z : List ℕ) → length x ≡ p → Storable es → events_at (length es) p (x ++ (body es ++ z)) ≡ es
@@ -210,9 +213,9 @@ pub split_flat : (l : AccountList) → split (map length l) (flat l) ≡ l
 split_flat [] = refl
 split_flat (a ∷ l) = rw (take-append_seam a (flat l), drop-append_seam a (flat l), split_flat l)
 
-pub total_lengths : (l : AccountList) → counts_total (map length l) ≡ length (flat l)
+total_lengths : (l : AccountList) → sum (map length l) ≡ length (flat l)
 total_lengths [] = refl
-total_lengths (a ∷ l) = rw length-append (ap (λ k. length a + k) (total_lengths l))
+total_lengths (a ∷ l) = omega (arith, sum_by-cons (λ x. x) (length a) (map length l), total_lengths l, length-append a (flat l))
 
 pub length_table : (cs : List ℕ) (p : ℕ) → length (account_table p cs) ≡ 8 * length cs
 length_table [] p = refl
@@ -226,7 +229,7 @@ pub length_book : (cs : List ℕ) (es : List Event) → length (book_of cs es) �
 length_book cs es = simp (length-append, length_le, length_table, length_body) (omega arith)
 
 -- the parts of a book that was made from counts and events
-module _ (cs : List ℕ) (es : List Event) (few : length cs ≤ most_accounts) (sum : counts_total cs ≡ length es)
+module _ (cs : List ℕ) (es : List Event) (few : length cs ≤ most_accounts) (total : sum cs ≡ length es)
     (small : base (length cs) + 16 * length es ≤ longest) (storable : Storable es) where
   book_accounts : accounts (book_of cs es) ≡ length cs
   book_accounts = num_at 4 (length cs) 0 [] (le 4 (length es) ++ (account_table (base (length cs)) cs ++ body es)) refl (omega arith)

@@ -1,5 +1,4 @@
 pub mod Book
-pub mod Answers
 pub mod Lent
 pub mod Finding
 pub mod Facts

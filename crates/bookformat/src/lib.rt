@@ -11,13 +11,13 @@ use little::get;
 use rules::Event;
 use rules::kinds::Kind;
 
-// A book has at most so many accounts ..
+// The most accounts of a book.
 pub const MOST_ACCOUNTS: usize = 1024;
 
-// .. and so many bytes.
+// The most bytes of a book.
 pub const LONGEST: usize = 4_294_967_295;
 
-// So many bytes have the header, the entry of an account in the table, and a record.
+// The bytes of the header, of an entry of the table, of a record.
 pub const HEADER: usize = 8;
 
 pub const ENTRY: usize = 8;
@@ -25,7 +25,7 @@ pub const ENTRY: usize = 8;
 pub const RECORD: usize = 16;
 
 // The records of one account of a book: count of them, from record first on.
-#[derive(Clone, Copy)]
+#[derive(Clone, Copy, Default)]
 pub struct Span {
     pub first: usize,
     pub count: usize,
@@ -35,14 +35,16 @@ pub struct Span {
 // say the bound, would be widened wherever it is used.
 pub fn accounts(b: &[u8]) -> usize
     requires { 8 ≤ length b.now }
-    ensures { (result ≡ accounts b.now) × (result < 4294967296) }
+    ensures value { result ≡ accounts b.now }
+    ensures small { result < 4294967296 }
 {
     get::<4>(b, 0) as usize
 }
 
 pub fn records(b: &[u8]) -> usize
     requires { 8 ≤ length b.now }
-    ensures { (result ≡ records b.now) × (result < 4294967296) }
+    ensures value { result ≡ records b.now }
+    ensures small { result < 4294967296 }
 {
     get::<4>(b, 4) as usize
 }
@@ -57,7 +59,8 @@ pub fn base(accounts: usize) -> usize
 
 // How long a book of so many accounts and records is.
 pub fn size(accounts: usize, records: usize) -> usize
-    requires { (accounts < 4294967296) × (records < 4294967296) }
+    requires few_accounts { accounts < 4294967296 }
+    requires few_records { records < 4294967296 }
     ensures { result ≡ size accounts records }
 {
     base(accounts) + RECORD * records

@@ -7,14 +7,26 @@ ghost use Rattle.bookformat.specs.Book.{events_at};
 
 use crate::{RECORD, event_at};
 use rules::Event;
+use std::marker::Model;
 
-// So many records are left, from byte `at` on.
+// The records that are left: `left` of them, the next one at byte `at`. A contract sees the list of their events.
 #[derive(Drop)]
 pub struct Records<'a> {
     bytes: &'a [u8],
     at: usize,
     left: usize,
-    ghost room: { at + 16 * left ≤ length bytes.now },
+}
+
+impl<'a> Model for Records<'a> {
+    ghost use Rattle.std.specs.Prelude.{List, ◌+◌, ◌*◌, ◌≤◌, length};
+    ghost use Rattle.rules.specs.declared.Event.{Event};
+    ghost use Rattle.bookformat.specs.Book.{events_at};
+
+    ghost Value = { List Event };
+
+    ghost view = { λ s. events_at s.left s.at s.bytes.now };
+
+    ghost invariant = { λ s. s.at + 16 * s.left ≤ length s.bytes.now };
 }
 
 impl<'a> Records<'a> {
@@ -22,8 +34,8 @@ impl<'a> Records<'a> {
     #[tactic(auto, using(crate::proofs::Trips::length_events))]
     pub fn new(b: &'a [u8], p: usize, n: usize) -> Records<'a>
         requires { p + 16 * n ≤ length b.now }
-        ensures events { events_at result.left result.at result.bytes.now ≡ events_at n p b.now }
-        ensures count { length (events_at n p b.now) ≡ n }
+        ensures events { result ≡ events_at n p b.now }
+        ensures count { length result ≡ n }
     {
         Records {
             bytes: b,
@@ -36,9 +48,9 @@ impl<'a> Records<'a> {
 impl<'a> Iterator for Records<'a> {
     type Item = Event;
 
-    ghost next_gives = { YieldsFirst (λ s. events_at s.left s.at s.bytes.now) };
+    ghost next_gives = { YieldsFirst (λ rest. rest) };
 
-    ghost remaining = { item_count (λ s. events_at s.left s.at s.bytes.now) };
+    ghost remaining = { item_count (λ rest. rest) };
 
     fn next(&mut self) -> Option<Event> {
         if self.left == 0 {

@@ -1,5 +1,5 @@
 -- An account posted and noted, event by event, and the whole history.
-use Prim.Native.Nat.{ℕ, zero, suc, ◌≤◌, ◌<◌}
+use Prim.Native.Nat.{ℕ, suc, ◌≤◌, ◌<◌}
 use mathlib.Core.Path.{◌≡◌, refl, sym, ap, ◌∙◌}
 use mathlib.Core.Bool.{true, cond, ◌&&◌}
 use mathlib.Core.List.{List, [], ◌∷◌, ◌++◌, map}
@@ -18,15 +18,13 @@ use Rattle.rules.specs.declared.Event.{Event}
 use Rattle.rules.specs.Refusals.{refusal_number, refusals}
 use Rattle.rules.specs.History.{History}
 use Rattle.rules.specs.Money.{owed}
-use Rattle.rules.specs.Answer.{number_of}
+use Rattle.rules.specs.Answer.{Answer, answered, number_of}
 use Rattle.rules.specs.Accepted.{offered, accepted, accepted_after, answer, answers_after, answers_by}
 use Rattle.little.proofs.Stores.{sets_front, sets_then}
-use Rattle.bookformat.specs.Lent.{after, or_else}
-use Rattle.bookformat.specs.Answers.{outcome_of}
+use Rattle.bookformat.specs.Lent.{after}
 use Rattle.bookformat.specs.Book.{book_refusal}
 use Rattle.bookformat.specs.Finding.{book_account}
 use Rattle.bookformat.proofs.Told.{told, unchanged, or_zero, book_in_table, or_in_table}
-use Rattle.account.specs.declared.Posted.{Posted}
 use Rattle.account.specs.State.{fresh_words}
 use Rattle.account.specs.Post.{answer_to, words_after}
 use Rattle.questions.specs.Questions.{owed_in}
@@ -63,13 +61,13 @@ pub record Noted (ns₀ : List ℕ) (os₀ : List ℤ) (es : List Event) (ns : L
   pub owing : os ≡ sets os₀ 0 (owed_from [] es)
 
 module _ (ns₀ : List ℕ) (os₀ : List ℤ) (es : List Event) (ns : List ℕ) (os : List ℤ) (m : List ℕ) (t : Noted ns₀ os₀ es ns os m) where
-  pub noted_more : (e : Event) (p : Posted) (i x : ℕ) (y : ℤ) → i ≡ length es
-      → p ≡ record { answer = answer_to m e; account = record { memory = words_after m e } } → x ≡ number_of p.answer → y ≡ owed_in p.account.memory
-      → Noted ns₀ os₀ (es ++ (e ∷ [])) (set ns i x) (set os i y) p.account.memory
-  noted_more e p i x y l q u v =
-      let after : p.account.memory ≡ run fresh_words (es ++ (e ∷ [])) = ap (λ d. d.account.memory) q ∙ ap (λ k. words_after k e) t.at ∙ sym (run_more fresh_words es e) in
+  pub noted_more : (e : Event) (s : Answer) (k : List ℕ) (i x : ℕ) (y : ℤ) → i ≡ length es
+      → s ≡ answer_to m e → k ≡ words_after m e → x ≡ number_of s → y ≡ owed_in k
+      → Noted ns₀ os₀ (es ++ (e ∷ [])) (set ns i x) (set os i y) k
+  noted_more e s k i x y l p q u v =
+      let after : k ≡ run fresh_words (es ++ (e ∷ [])) = q ∙ ap (λ w. words_after w e) t.at ∙ sym (run_more fresh_words es e) in
       let n : x ≡ number_of (answer (accepted es) e) =
-      u ∙ ap (λ d. number_of d.answer) q ∙ ap (λ k. number_of (answer_to k e)) t.at ∙ ap number_of ((demand_3 es).would e) in
+      u ∙ ap number_of p ∙ ap (λ w. number_of (answer_to w e)) t.at ∙ ap number_of ((demand_3 es).would e) in
       let d : y ≡ owed (accepted (es ++ (e ∷ []))) = v ∙ ap owed_in after ∙ (demand_3 (es ++ (e ∷ []))).owing in
       record {
         at = after;
@@ -86,13 +84,8 @@ history_in_table b i n m =
     let t = leb (length (book_account b i)) n && leb (length (book_account b i)) m in
     or_in_table (book_refusal b) (cond t 0 22) (book_in_table b) (on t (λ q. rw q (omega arith)) (λ q. rw q (omega arith)))
 
--- a book that is refused refuses the history with the same number
-pub book_first : (n x : ℕ) (r : Refusal) → Err r ≡ outcome_of n → Err r ≡ outcome_of (or_else n x)
-book_first zero x r e = absurd (cc)
-book_first (suc n) x r e = e
-
 -- a history that is refused leaves both slices as they were
-pub history_none : (b : List ℕ) (i : ℕ) (ns : List ℕ) (os : List ℤ) (r : Refusal) → Err r ≡ outcome_of (history_refusal b i (length ns) (length os))
+pub history_none : (b : List ℕ) (i : ℕ) (ns : List ℕ) (os : List ℤ) (r : Refusal) → Err r ≡ answered (history_refusal b i (length ns) (length os)) (tt {0})
     → ToldHistory b i ns ns os os (refusal_number r)
 history_none b i ns os r e =
     let n = history_refusal b i (length ns) (length os) in
@@ -100,7 +93,7 @@ history_none b i ns os r e =
     record { answer = t.0; numbers = unchanged n _ ns t.1; owing = unchanged n _ os t.1 }
 
 module _ (b : List ℕ) (i : ℕ) (ns : List ℕ) (os : List ℤ) (z : history_refusal b i (length ns) (length os) ≡ 0) where
-  pub history_room : (length (book_account b i) ≤ length ns) × (length (book_account b i) ≤ length os)
+  history_room : (length (book_account b i) ≤ length ns) × (length (book_account b i) ≤ length os)
   history_room =
       let n = length (book_account b i) in
       let r = or_zero (book_refusal b) (cond (leb n (length ns) && leb n (length os)) 0 22) z in

@@ -1,6 +1,12 @@
--- Lent memory before and after a call.
+-- Lent memory: what it holds, and that it is the same before and after a call.
 use Rattle.std.specs.Prelude.{◌≡◌}
+use Rattle.bookformat.specs.Lent.{Columns}
 use Rattle.bookread.specs.declared.LentMemory.{LentMemory}
+
+-- what the five slices hold
+abbrev pub columns_of : LentMemory → Columns
+columns_of m =
+    record { counts = m.counts.now; kinds = m.kinds.now; options = m.options.now; days = m.days.now; amounts = m.amounts.now }
 
 -- each field still lends the slice that it lent before
 pub record SameSlices (m n : LentMemory) : Type 0 where

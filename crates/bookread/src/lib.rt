@@ -1,18 +1,17 @@
-// The account list of a book read into lent memory: how many records each account has into counts, the records of all
-// accounts, one after another, into a slice for each field. The book is tested first; then one pass reads it.
+// The account list of a book read into lent memory: how many records each account has into counts, and each field of the records of all
+// accounts, one after another, into a slice of its own. The book is tested first; then one pass reads it.
 #![tactic(auto)]
 
-ghost use Rattle.std.specs.Prelude.{◌≡◌, ◌+◌, ◌*◌, ◌≤◌, length};
+ghost use Rattle.std.specs.Prelude.{◌≡◌, ◌+◌, ◌*◌, ◌≤◌, true, length};
 ghost use Rattle.std.proofs.lemmas.List.Edits.{sets};
-ghost use Rattle.rules.specs.Answer.{answered};
-ghost use Rattle.bookformat.specs.Book.{most_accounts, base, events_at, counts_at, decode};
-ghost use Rattle.bookformat.specs.Lent.{kinds_of, options_of, days_of, amounts_of, read_refusal, Left, Gave};
-ghost use Rattle.bookformat.specs.Facts.{Fits};
-ghost use Rattle.bookread.specs.Memory.{SameSlices};
-ghost use Rattle.bookformat.specs.Answers.{outcome_number, outcome_of};
+ghost use Rattle.rules.specs.Answer.{answered, number_of};
+ghost use Rattle.bookformat.specs.Book.{accounts, events_at, counts_at, decode};
+ghost use Rattle.bookformat.specs.Lent.{kinds_of, options_of, days_of, amounts_of, long_enough, read_refusal, Left, Gave};
+ghost use Rattle.bookread.specs.Memory.{columns_of, SameSlices};
 
+use book::Book;
+use bookformat::base;
 use bookformat::walk::Records;
-use bookformat::{accounts, base, records};
 use little::get;
 use rules::refusals::Refusal;
 
@@ -26,13 +25,12 @@ pub struct LentMemory<'a> {
     pub amounts: &'a mut [u64],
 }
 
-// The book first, then whether this memory has room for its list.
-fn check(b: &[u8], memory: &LentMemory) -> Result<(), Refusal>
-    ensures { let m = memory.now in result ≡ answered (read_refusal b.now (length m.counts.now) (length m.kinds.now) (length m.options.now) (length m.days.now) (length m.amounts.now)) tt }
+// Whether this memory has room for the list of a book that passed.
+fn check_room(book: Book, memory: &LentMemory) -> Result<(), Refusal>
+    ensures { result ≡ answered (read_refusal book.entry.bytes.now (columns_of memory.now)) tt }
 {
-    book::check(b)?;
-    let r = records(b);
-    let fits = accounts(b) <= memory.counts.len()
+    let r = book.records();
+    let fits = book.accounts() <= memory.counts.len()
         && r <= memory.kinds.len()
         && r <= memory.options.len()
         && r <= memory.days.len()
@@ -40,13 +38,14 @@ fn check(b: &[u8], memory: &LentMemory) -> Result<(), Refusal>
     Refusal::TooShort.when(!fits)
 }
 
-// The counts of the first n accounts.
-fn take_counts(b: &[u8], n: usize, counts: &mut [u32])
-    requires { (base n ≤ length b.now) × (n ≤ most_accounts) × (n ≤ length counts.old) }
-    ensures { counts.new ≡ sets counts.old 0 (counts_at n 8 b.now) }
+// The count of each account, from its entry in the table. By the entry's place: no lemma of the library says which slices `chunks_exact`
+// gives.
+fn take_counts(book: Book, counts: &mut [u32])
+    requires { accounts book.bytes.now ≤ length counts.old }
+    ensures { let b = book.entry.bytes.now in counts.new ≡ sets counts.old 0 (counts_at (accounts b) 8 b) }
 {
-    for (i, count) in counts[..n].iter_mut().enumerate() {
-        *count = get::<4>(b, base(i) + 4) as u32;
+    for (i, count) in counts[..book.accounts()].iter_mut().enumerate() {
+        *count = get::<4>(book.bytes, base(i) + 4) as u32;
     }
 }
 
@@ -61,7 +60,11 @@ fn take_records(
     days: &mut [u32],
     amounts: &mut [u64],
 )
-    requires { (p + 16 * n ≤ length b.now) × (n ≤ length kinds.old) × (n ≤ length options.old) × (n ≤ length days.old) × (n ≤ length amounts.old) }
+    requires within { p + 16 * n ≤ length b.now }
+    requires kinds_room { n ≤ length kinds.old }
+    requires options_room { n ≤ length options.old }
+    requires days_room { n ≤ length days.old }
+    requires amounts_room { n ≤ length amounts.old }
     ensures kinds_after { kinds.new ≡ sets kinds.old 0 (kinds_of (events_at n p b.now)) }
     ensures options_after { options.new ≡ sets options.old 0 (options_of (events_at n p b.now)) }
     ensures days_after { days.new ≡ sets days.old 0 (days_of (events_at n p b.now)) }
@@ -75,18 +78,17 @@ fn take_records(
     }
 }
 
-// The list of a book that passed, into memory that is long enough.
-fn take_book(b: &[u8], memory: &mut LentMemory)
-    requires { let m = memory.old in Fits b.now (length m.counts.now) (length m.kinds.now) (length m.options.now) (length m.days.now) (length m.amounts.now) }
-    ensures left { let m = memory.old in let n = memory.new in Left 0 (decode b.now) m.counts.now m.kinds.now m.options.now m.days.now m.amounts.now n.counts.now n.kinds.now n.options.now n.days.now n.amounts.now }
+// The list of a book that passed, into memory that has room for it.
+fn take_book(book: Book, memory: &mut LentMemory)
+    requires { long_enough book.bytes.now (columns_of memory.old) ≡ true }
+    ensures left { Left 0 (decode book.entry.bytes.now) (columns_of memory.old) (columns_of memory.new) }
     ensures same { SameSlices memory.old memory.new }
 {
-    let a = accounts(b);
-    take_counts(b, a, memory.counts);
+    take_counts(book, memory.counts);
     take_records(
-        b,
-        base(a),
-        records(b),
+        book.bytes,
+        base(book.accounts()),
+        book.records(),
         memory.kinds,
         memory.options,
         memory.days,
@@ -96,11 +98,12 @@ fn take_book(b: &[u8], memory: &mut LentMemory)
 
 // Reads the account list of a book, or refuses with 20, 21 or 22 and leaves all memory lent as it was.
 pub fn read(b: &[u8], memory: &mut LentMemory) -> Result<(), Refusal>
-    ensures gave { let m = memory.old in let n = memory.new in Gave b.now m.counts.now m.kinds.now m.options.now m.days.now m.amounts.now n.counts.now n.kinds.now n.options.now n.days.now n.amounts.now (outcome_number result) }
-    ensures outcome { result ≡ outcome_of (outcome_number result) }
+    ensures gave { Gave b.now (columns_of memory.old) (columns_of memory.new) (number_of result) }
+    ensures outcome { result ≡ answered (read_refusal b.now (columns_of memory.old)) tt }
     ensures same { SameSlices memory.old memory.new }
 {
-    check(b, memory)?;
-    take_book(b, memory);
+    let book = Book::read(b)?;
+    check_room(book, memory)?;
+    take_book(book, memory);
     Ok(())
 }

@@ -1,15 +1,17 @@
 // Books written from lent memory. All is tested before the first byte is stored; then one pass stores the book. What stores takes
-// the output and a place: a struct of both would be lent again at each number, and its clauses would have to say that it holds the same bytes.
+// the output and a place: a struct of both would be lent again at each number, and its clauses would have to say that it holds the same bytes;
+// of a part of the output each caller would have to say again where it lies in the whole.
 #![tactic(auto)]
 
 ghost use Rattle.std.specs.Prelude.{◌≡◌, [], ◌∷◌, ◌++◌, ◌+◌, ◌*◌, ◌<◌, ◌≤◌, length};
+ghost use Rattle.std.specs.List.{sum};
 ghost use Rattle.std.proofs.lemmas.List.Edits.{sets};
 ghost use Rattle.little.specs.Little.{le};
-ghost use Rattle.rules.specs.Answer.{answered};
-ghost use Rattle.bookformat.specs.Book.{most_accounts, base, record_bytes, body, account_table, book_of};
-ghost use Rattle.bookformat.specs.Lent.{lent, counts_total, sizes_fine, kinds_fine, write_refusal, WroteBook};
+ghost use Rattle.rules.specs.Answer.{answered, number_of};
+ghost use Rattle.bookformat.specs.Book.{most_accounts, base, size, record_bytes, body, account_table, book_of};
+ghost use Rattle.bookformat.specs.Lent.{lent, sizes_fine, kinds_fine, write_refusal, WroteBook};
 ghost use Rattle.bookformat.specs.Facts.{WriteRoom};
-ghost use Rattle.bookformat.specs.Answers.{outcome_number, outcome_of};
+ghost use Rattle.bookwrite.specs.Lists.{columns_of};
 
 use bookformat::{LONGEST, MOST_ACCOUNTS, RECORD, base, kind_fine, size};
 use little::put;
@@ -30,26 +32,25 @@ pub struct LentList<'a> {
 // The sum of at most 1,024 counts, which can't wrap.
 fn sum(counts: &[u32]) -> u64
     requires { length counts.now ≤ most_accounts }
-    ensures { result ≡ counts_total counts.now }
+    ensures { result ≡ sum counts.now }
 {
     counts.iter().map(|n| u64::from(*n)).sum()
 }
 
 fn kinds_fine(kinds: &[u8]) -> bool
-    ensures { result ≡ kinds_fine (length kinds.now) 0 kinds.now }
+    ensures { result ≡ kinds_fine kinds.now }
 {
     kinds.iter().all(|k| kind_fine(*k))
 }
 
 // The counts and lengths. More records than a book has bytes are too many, so the length of the book can't wrap.
 fn sizes_fine(list: LentList) -> bool
-    ensures { let l = list.entry in result ≡ sizes_fine l.counts.now l.kinds.now l.options.now l.days.now l.amounts.now }
+    ensures { result ≡ sizes_fine (columns_of list.entry) }
 {
     let n = list.kinds.len();
-    if MOST_ACCOUNTS < list.counts.len() || LONGEST < n {
-        return false;
-    }
-    size(list.counts.len(), n) <= LONGEST
+    list.counts.len() <= MOST_ACCOUNTS
+        && n <= LONGEST
+        && size(list.counts.len(), n) <= LONGEST
         && sum(list.counts) == n as u64
         && list.options.len() == n
         && list.days.len() == n
@@ -58,7 +59,7 @@ fn sizes_fine(list: LentList) -> bool
 
 // The sizes first, then the kinds, then whether output of room bytes has room for the book.
 fn check(list: LentList, room: usize) -> Result<(), Refusal>
-    ensures { let l = list.entry in result ≡ answered (write_refusal l.counts.now l.kinds.now l.options.now l.days.now l.amounts.now room) tt }
+    ensures { result ≡ answered (write_refusal (columns_of list.entry) room) tt }
 {
     Refusal::BadBook.when(!sizes_fine(list))?;
     Refusal::BadRecord.when(!kinds_fine(list.kinds))?;
@@ -74,9 +75,10 @@ fn put_entry(out: &mut [u8], p: usize, first: usize, n: usize)
     put::<4>(out, p + 4, n as u64);
 }
 
-// The table of the counts, from byte 8 on.
+// The table of the counts, from byte 8 on. By the places of its entries: no lemma of the library says what `chunks_exact_mut` leaves.
 fn put_table(counts: &[u32], out: &mut [u8])
-    requires { (length counts.now ≤ most_accounts) × (base (length counts.now) ≤ length out.old) }
+    requires few { length counts.now ≤ most_accounts }
+    requires room { base (length counts.now) ≤ length out.old }
     ensures { out.new ≡ sets out.old 8 (account_table (base (length counts.now)) counts.now) }
 {
     let mut first = base(counts.len());
@@ -104,10 +106,14 @@ fn put_record(out: &mut [u8], p: usize, e: Event)
     put::<8>(out, p + 8, e.amount);
 }
 
-// Every record, from byte p on. The other fields are read at the index of the first, since a zip of four iterators is no plainer.
+// Every record, from byte p on, each at its place for the same reason. The other fields are read at the index of the first, since a zip
+// of four iterators is no plainer.
 fn put_records(list: LentList, out: &mut [u8], p: usize)
-    requires { (length list.options.now ≡ length list.kinds.now) × (length list.days.now ≡ length list.kinds.now) × (length list.amounts.now ≡ length list.kinds.now) × (p + 16 * length list.kinds.now ≤ length out.old) }
-    ensures { let l = list.entry in out.new ≡ sets out.old p (body (lent (length l.kinds.now) 0 l.kinds.now l.options.now l.days.now l.amounts.now)) }
+    requires options { length list.options.now ≡ length list.kinds.now }
+    requires days { length list.days.now ≡ length list.kinds.now }
+    requires amounts { length list.amounts.now ≡ length list.kinds.now }
+    requires room { p + 16 * length list.kinds.now ≤ length out.old }
+    ensures { out.new ≡ sets out.old p (body (lent (length list.entry.kinds.now) 0 (columns_of list.entry))) }
 {
     for (i, kind) in list.kinds.iter().enumerate() {
         let e = Event {
@@ -122,20 +128,20 @@ fn put_records(list: LentList, out: &mut [u8], p: usize)
 
 // The book of a list that passed, into output that is long enough.
 fn put_book(list: LentList, out: &mut [u8])
-    requires { WriteRoom list.counts.now list.kinds.now list.options.now list.days.now list.amounts.now (length out.old) }
-    ensures { let l = list.entry in out.new ≡ sets out.old 0 (book_of l.counts.now (lent (length l.kinds.now) 0 l.kinds.now l.options.now l.days.now l.amounts.now)) }
+    requires { WriteRoom (columns_of list) (length out.old) }
+    ensures { let l = list.entry in out.new ≡ sets out.old 0 (book_of l.counts.now (lent (length l.kinds.now) 0 (columns_of l))) }
 {
     put_entry(out, 0, list.counts.len(), list.kinds.len());
     put_table(list.counts, out);
     put_records(list, out, base(list.counts.len()));
 }
 
-// Writes the book of the account list lent, or refuses with 20, 21 or 22 and leaves the output as it was.
-pub fn write(list: LentList, out: &mut [u8]) -> Result<(), Refusal>
-    ensures wrote_book { let l = list.entry in WroteBook l.counts.now l.kinds.now l.options.now l.days.now l.amounts.now out.old out.new (outcome_number result) }
-    ensures outcome { result ≡ outcome_of (outcome_number result) }
+// Writes the book of the account list lent and says how long it is, or refuses with 20, 21 or 22 and leaves the output as it was.
+pub fn write(list: LentList, out: &mut [u8]) -> Result<usize, Refusal>
+    ensures wrote_book { WroteBook (columns_of list.entry) out.old out.new (number_of result) }
+    ensures outcome { let l = list.entry in result ≡ answered (write_refusal (columns_of l) (length out.old)) (size (length l.counts.now) (length l.kinds.now)) }
 {
     check(list, out.len())?;
     put_book(list, out);
-    Ok(())
+    Ok(size(list.counts.len(), list.kinds.len()))
 }

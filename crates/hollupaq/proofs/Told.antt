@@ -12,13 +12,14 @@ use Rattle.std.proofs.Common.{◌<◌, ◌&&◌, Result, Ok, Err}
 use Rattle.rules.specs.declared.refusals.Refusal.{Refusal}
 use Rattle.rules.specs.Refusals.{refusals}
 use Rattle.rules.specs.Answer.{Answer, answered, receipt_of}
-use Rattle.rules.proofs.Numbered.{number_kept}
+use Rattle.std.specs.Result.{MatchResult, IsOkAnd}
+use Rattle.rules.proofs.Numbered.{number_kept, answered_err}
 use Rattle.rules.specs.Tariff.{is_class, cents_of, bill_refusal, bill_of}
 use Rattle.tariff.proofs.Law.{allowed, bill_in_range}
-use Rattle.bookformat.specs.Book.{size}
-use Rattle.bookformat.specs.Lent.{sizes_fine, kinds_fine, write_refusal, WroteBook}
-use Rattle.bookformat.specs.Facts.{Sizes}
-use Rattle.bookformat.proofs.Told.{write_facts}
+use Rattle.bookformat.specs.Book.{size, book_refusal}
+use Rattle.bookformat.specs.Lent.{Columns, sizes_fine, kinds_fine, write_refusal, WroteBook}
+use Rattle.book.specs.declared.Book.{Book}
+use Rattle.bookformat.proofs.Told.{write_facts, book_in_table, write_in_table}
 use Rattle.bookformat.proofs.Forth.{length_written}
 use Rattle.questions.specs.Questions.{Tells, Says}
 use Rattle.hollupaq.specs.Library.{told, told_yes, answer_word, amount_word, truth_word}
@@ -69,18 +70,45 @@ bill_word class usage =
     (on (is_class class && leb usage most_usage) (λ q. rw q (omega arith)) (λ q. rw q (omega arith)))
     (λ z. (bill_in_range class usage (allowed class usage z)).1)
 
--- ---- a list that was written with this number
-module _ (cs ks os ds ms old new : List ℕ) (n : ℕ) (w : WroteBook cs ks os ds ms old new n) where
-  pub stored_not : (n ≡ 0 → ⊥) → Stored cs ks os ds ms old new n
-  stored_not h = record { answer = w.answer ∙ told_number _ _ (rw w.answer at h); bytes = w.bytes }
+-- ---- a book that passed, and what is told of it
+small_word : (n x w : ℕ) (m : Result ℕ Refusal) → m ≡ answered n x → n < length refusals → (n ≡ 0 → x ≤ most_amount) → w ≡ amount_word m → w ≡ told n x
+small_word n x w m e h small a = a ∙ ap amount_word e ∙ told_answered n x h small
 
-  pub stored : n ≡ 0 → Stored cs ks os ds ms old new (256 + size (length cs) (length ks))
-  stored z =
-      let y = sym w.answer ∙ z in
-      record { answer = told_value _ _ _ y (sym (length_written cs ks os ds ms (length old) y)); bytes = w.bytes }
+-- what is asked of the book, by a closure that says L of it
+mapped : (b : List ℕ) (v : ℕ) (L : Book → ℕ → Type 0) (r : Result Book Refusal) (m : Result ℕ Refusal)
+    → MatchResult r (λ x. x.bytes.now ≡ b) (λ e. Err e ≡ answered (book_refusal b) (tt {0}))
+    → MatchResult r (λ x. IsOkAnd m (L x)) (λ e. m ≡ Err e)
+    → ((x : Book) (y : ℕ) → x.bytes.now ≡ b → L x y → y ≡ v) → m ≡ answered (book_refusal b) v
+mapped b v L (Ok x) (Ok y) q k s = rw (rw q at x.sound) (ap Ok (s x y q k))
+mapped b v L (Ok x) (Err e) q k s = absurd k
+mapped b v L (Err e) m q k s = k ∙ (answered_err (book_refusal b) e (tt {0}) v q).1
 
-  pub stored_sizes : n ≡ 0 → Sizes cs ks os ds ms
-  stored_sizes z = (write_facts cs ks os ds ms (length old) (sym w.answer ∙ z)).sizes
+pub header_word : (b : List ℕ) (v w : ℕ) (L : Book → ℕ → Type 0) (r : Result Book Refusal) (m : Result ℕ Refusal)
+    → MatchResult r (λ x. x.bytes.now ≡ b) (λ e. Err e ≡ answered (book_refusal b) (tt {0}))
+    → MatchResult r (λ x. IsOkAnd m (L x)) (λ e. m ≡ Err e)
+    → ((x : Book) (y : ℕ) → x.bytes.now ≡ b → L x y → y ≡ v) → (book_refusal b ≡ 0 → v ≤ most_amount) → w ≡ amount_word m → w ≡ told (book_refusal b) v
+header_word b v w L r m q k s h a = small_word _ v w m (mapped b v L r m q k s) (book_in_table b) h a
+
+-- ---- a list that was written, or refused: what is answered and told of it
+same_told : (n v w : ℕ) → (n ≡ 0 → v ≡ w) → told n v ≡ told n w
+same_told zero v w h = ap (λ x. 256 + x) (h refl)
+same_told (suc n) v w h = refl
+
+pub mapped_size : (n v : ℕ) (L : ℕ → ℕ → Type 0) (r m : Result ℕ Refusal) → r ≡ answered n v → MatchResult r (λ x. IsOkAnd m (L x)) (λ e. m ≡ Err e)
+    → ((x y : ℕ) → L x y → y ≡ x) → m ≡ answered n v
+mapped_size n v L (Ok x) (Ok y) q k s = ap Ok (s x y k) ∙ q
+mapped_size n v L (Ok x) (Err e) q k s = absurd k
+mapped_size n v L (Err e) m q k s = k ∙ q
+
+pub stored : (lists : Columns) (old new : List ℕ) (n w : ℕ) (m : Result ℕ Refusal) → WroteBook lists old new n
+    → m ≡ answered (write_refusal lists (length old)) (size (length lists.counts) (length lists.kinds)) → w ≡ amount_word m → Stored lists old new w
+stored lists old new n w m t e a =
+    let r = write_refusal lists (length old) in
+    record {
+      answer = small_word r _ w m e (write_in_table lists (length old)) (λ z. omega (arith, (write_facts lists (length old) z).sizes)) a
+          ∙ same_told r _ _ (λ z. sym (length_written lists (length old) z));
+      bytes = t.bytes;
+    }
 
 -- ---- what the library stored was written, so that the round trips hold of it (`ListBack` in bookformat/specs/Trips.antt)
 
@@ -88,16 +116,16 @@ small : (b : Bool) (x k : ℕ) → x ≤ 22 → k ≤ 22 → cond b x k ≤ 22
 small true x k p q = p
 small false x k p q = q
 
-write_small : (cs ks os ds ms : List ℕ) (room : ℕ) → write_refusal cs ks os ds ms room ≤ 22
-write_small cs ks os ds ms room = small (sizes_fine cs ks os ds ms) _ 20 (small (kinds_fine (length ks) 0 ks) _ 21 (small (leb (size (length cs)
-    (length ks)) room) 0 22 (omega arith) (omega arith)) (omega arith)) (omega arith)
+write_small : (lists : Columns) (room : ℕ) → write_refusal lists room ≤ 22
+write_small lists room = small (sizes_fine lists) _ 20 (small (kinds_fine lists.kinds) _ 21 (small (leb (size (length lists.counts)
+    (length lists.kinds)) room) 0 22 (omega arith) (omega arith)) (omega arith)) (omega arith)
 
 told_taken : (n v k : ℕ) → n ≤ 22 → 256 + k ≡ told n v → (n ≡ 0) × (k ≡ v)
 told_taken zero v k h e = (refl, omega (arith, e))
 told_taken (suc n) v k h e = absurd (omega (arith, e))
 
-pub stored_wrote : (cs ks os ds ms old new : List ℕ) (k : ℕ) → Stored cs ks os ds ms old new (256 + k)
-    → WroteBook cs ks os ds ms old new 0 × (k ≡ size (length cs) (length ks))
-stored_wrote cs ks os ds ms old new k s =
-    let p = told_taken _ _ k (write_small cs ks os ds ms (length old)) s.answer in
-    (record { answer = sym p.0; bytes = s.bytes }, p.1 ∙ length_written cs ks os ds ms (length old) p.0)
+pub stored_wrote : (lists : Columns) (old new : List ℕ) (k : ℕ) → Stored lists old new (256 + k)
+    → WroteBook lists old new 0 × (k ≡ size (length lists.counts) (length lists.kinds))
+stored_wrote lists old new k s =
+    let p = told_taken _ _ k (write_small lists (length old)) s.answer in
+    (record { answer = sym p.0; bytes = s.bytes }, p.1 ∙ length_written lists (length old) p.0)

@@ -1,36 +1,23 @@
 // Books and account lists in the memory of a program in another language: tested, read and written. Only pointers with
 // lengths, and numbers, cross the boundary.
-ghost use Rattle.std.specs.Prelude.{◌≡◌, ◌≤◌};
-ghost use Rattle.little.specs.Little.{num};
+ghost use Rattle.std.specs.Prelude.{◌≡◌};
 ghost use Rattle.bookformat.specs.Book.{accounts, records, book_refusal};
 ghost use Rattle.bookformat.specs.Lent.{Gave};
 ghost use Rattle.hollupaq.specs.Library.{told};
-ghost use Rattle.hollupaq.specs.Books.{Stored};
+ghost use Rattle.hollupaq.specs.Books.{columns, Stored};
 
-use crate::ACCEPTED;
+use crate::word_of;
+use book::Book;
 use bookread::LentMemory;
 use bookwrite::LentList;
-use little::get;
 use rules::refusals::number_of;
-
-// The number at byte p of the header, where the book is not refused. A match, and no map: what a closure asks of the book that
-// passed would want more proof than the two arms.
-fn header_number(book: &[u8], p: usize) -> u64
-    requires { p ≤ 4 }
-    ensures { result ≡ told (book_refusal book.now) (num 4 p book.now) }
-{
-    match book::check(book) {
-        Ok(()) => ACCEPTED + get::<4>(book, p),
-        Err(refusal) => u64::from(refusal.number()),
-    }
-}
 
 // The test of a book: 20 or 21 where it is refused, else 256 and how many accounts it has.
 #[unsafe(no_mangle)]
 pub extern "C" fn hollupaq_book_accounts(book: &[u8]) -> u64
     ensures { result ≡ told (book_refusal book.now) (accounts book.now) }
 {
-    header_number(book, 0)
+    word_of(Book::read(book).map(|b| b.accounts() as u64))
 }
 
 // The same with how many records it has, of all accounts.
@@ -38,7 +25,7 @@ pub extern "C" fn hollupaq_book_accounts(book: &[u8]) -> u64
 pub extern "C" fn hollupaq_book_records(book: &[u8]) -> u64
     ensures { result ≡ told (book_refusal book.now) (records book.now) }
 {
-    header_number(book, 4)
+    word_of(Book::read(book).map(|b| b.records() as u64))
 }
 
 // Reads the account list of a book: 0, and longer memory keeps its tail; or 20, 21 or 22, and all of it stays as it was.
@@ -51,7 +38,7 @@ pub extern "C" fn hollupaq_book_read(
     days: &mut [u32],
     amounts: &mut [u64],
 ) -> u8
-    ensures { Gave book.now counts.old kinds.old options.old days.old amounts.old counts.new kinds.new options.new days.new amounts.new result }
+    ensures { Gave book.now (columns counts.old kinds.old options.old days.old amounts.old) (columns counts.new kinds.new options.new days.new amounts.new) result }
 {
     let mut memory = LentMemory {
         counts,
@@ -64,7 +51,7 @@ pub extern "C" fn hollupaq_book_read(
 }
 
 // Writes the book of an account list: 256 and its length, and longer output keeps its tail; or 20, 21 or 22, and the output
-// stays as it was. A match here too: a closure would ask that the sizes passed, which has no name there.
+// stays as it was.
 #[unsafe(no_mangle)]
 pub extern "C" fn hollupaq_book_write(
     counts: &[u32],
@@ -74,7 +61,7 @@ pub extern "C" fn hollupaq_book_write(
     amounts: &[u64],
     out: &mut [u8],
 ) -> u64
-    ensures { Stored counts.now kinds.now options.now days.now amounts.now out.old out.new result }
+    ensures { Stored (columns counts.now kinds.now options.now days.now amounts.now) out.old out.new result }
 {
     let list = LentList {
         counts,
@@ -83,8 +70,5 @@ pub extern "C" fn hollupaq_book_write(
         days,
         amounts,
     };
-    match bookwrite::write(list, out) {
-        Ok(()) => ACCEPTED + bookformat::size(counts.len(), kinds.len()) as u64,
-        Err(refusal) => u64::from(refusal.number()),
-    }
+    word_of(bookwrite::write(list, out).map(|n| n as u64))
 }

@@ -34,11 +34,12 @@ pub extern "C" fn hollupaq_ok(account: &[u64]) -> u8
 pub extern "C" fn hollupaq_fresh(account: &mut [u64]) -> u8
     ensures { Begun account.old result account.new }
 {
-    if account.len() == WORDS {
-        account::clear(account);
-        1
-    } else {
-        0
+    match account.as_mut_array() {
+        Some(words) => {
+            account::clear(words);
+            1
+        }
+        None => 0,
     }
 }
 

@@ -8,12 +8,14 @@ ghost use Rattle.little.specs.Little.{num, le, top};
 
 // The number of W bytes at p.
 pub fn get<const W: usize>(b: &[u8], p: usize) -> u64
-    requires { (p + W ≤ length b.now) × (W ≤ 8) }
-    ensures { (result ≡ num W p b.now) × (result < top W) }
+    requires within { p + W ≤ length b.now }
+    requires narrow { W ≤ 8 }
+    ensures value { result ≡ num W p b.now }
+    ensures small { result < top W }
 {
     let mut number: u64 = 0;
-    for i in (0..W).rev() {
-        number = u64::from(b[p + i]) + 256 * number;
+    for byte in b[p..p + W].iter().rev() {
+        number = u64::from(*byte) + 256 * number;
     }
     number
 }
@@ -24,8 +26,8 @@ pub fn put<const W: usize>(out: &mut [u8], p: usize, v: u64)
     ensures { out.new ≡ sets out.old p (le W v) }
 {
     let mut rest = v;
-    for i in 0..W {
-        out[p + i] = (rest % 256) as u8;
+    for byte in out[p..p + W].iter_mut() {
+        *byte = (rest % 256) as u8;
         rest /= 256;
     }
 }

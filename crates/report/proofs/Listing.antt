@@ -24,7 +24,7 @@ use Rattle.std.proofs.Common.{Ok, Err}
 use Rattle.rules.specs.declared.refusals.Refusal.{Refusal}
 use Rattle.rules.specs.declared.refusals.Refusal.TheVariants.{TooShort}
 use Rattle.rules.specs.Refusals.{refusal_number}
-use Rattle.bookformat.specs.Answers.{outcome_of}
+use Rattle.rules.specs.Answer.{answered}
 use Rattle.bookformat.proofs.Told.{book_facts, told, book_in_table}
 use Rattle.report.proofs.Lines.{line_of_short}
 
@@ -151,7 +151,7 @@ refused_as : (n : ℕ) (b : List ℕ) → eqb n 0 ≡ false → text_by n b ≡ 
 refused_as zero b h = absurd (cc)
 refused_as (suc n) b h = refl
 
-pub text_refused : (b : List ℕ) (r : Refusal) → Err r ≡ outcome_of (book_refusal b) → text_by (book_refusal b) b ≡ refused_text (refusal_number r)
+pub text_refused : (b : List ℕ) (r : Refusal) → Err r ≡ answered (book_refusal b) (tt {0}) → text_by (book_refusal b) b ≡ refused_text (refusal_number r)
 text_refused b r e =
     let t = told (book_refusal b) r (book_in_table b) e in
     refused_as (book_refusal b) b t.1 ∙ ap refused_text (sym t.0)

@@ -5,7 +5,7 @@ use Rattle.book.proofs.account.Goals as goal
 
 pub returns-then-entries-i : goal.returns-then-entries-i
 returns-then-entries-i c =
-    let t = account_told c.args.b.now c.args.i (record { first = 0; count = 0 }) (search rules) in
+    let t = account_told c.args.b.now c.args.i c.default.result (search rules) in
     record { value = t.0; in_book = t.1 }
 
 pub returns : goal.returns

@@ -1,4 +1,4 @@
-use Rattle.std.proofs.Common.{rules, ℕ, ◌≡◌, ◌∙◌, length, arith}
+use Rattle.std.proofs.Common.{rules, ℕ, ◌≡◌, ◌∙◌, ap, length, arith}
 use Rattle.std.specs.Iterator.Adapters.{enumerate_count}
 use mir.Syntax.{w64}
 use mir.Val.{to_z, of_z}
@@ -18,8 +18,7 @@ loop-at-preserved c =
     let z : enumerate_count start ≡ 0 = cc in
     let at : x.0 ≡ length (unnumbered l.yielded) = omega (arith, numbered start l.at-iterator l.yielded l.yielded_by, c.in-Some.ensures.steps.1) in
     let y : to_z w64 (of_z w64 c.owed.result) ≡ c.owed.result = search rules in
-    let p : Posted = record { answer = c.post_lent.result; account = c.post_lent.new.a } in
-    let q : p ≡ posted l.account c.in-Some.e = rw (c.post_lent.ensures.answer_is, c.post_lent.ensures.account_is) in
     rw (unnumbered_more l.yielded x)
-    (noted_more a.numbers.now a.owed.now (unnumbered l.yielded) l.numbers l.owed l.account.memory l.invariant c.in-Some.e p c.in-Some.at c.number_of.result
-    (to_z w64 (of_z w64 c.owed.result)) at q c.number_of.ensures (y ∙ c.owed.ensures))
+    (noted_more a.numbers.now a.owed.now (unnumbered l.yielded) l.numbers l.owed l.account.memory l.invariant c.in-Some.e c.post_lent.result
+    c.post_lent.new.a.memory c.in-Some.at c.number_of.result (to_z w64 (of_z w64 c.owed.result)) at c.post_lent.ensures.answer_is
+    (ap (λ z. z.memory) c.post_lent.ensures.account_is) c.number_of.ensures (y ∙ c.owed.ensures))

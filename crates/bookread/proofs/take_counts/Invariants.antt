@@ -3,8 +3,11 @@ use mathlib.Core.Path.{◌≡◌}
 use mathlib.Core.List.{◌++◌}
 use lib.ListN.{drop}
 use lib.Seq.{sets}
-use Rattle.bookformat.specs.Book.{base, counts_at}
+use Rattle.bookformat.specs.Book.{accounts, base, counts_at}
 use Rattle.bookread.proofs.take_counts.Given as goal
 
 abbrev pub invariant-loop-i : goal.invariant-loop-i
-invariant-loop-i l = sets (l.count-items ++ drop l.n l.fn.counts) l.i (counts_at (l.n - l.i) (base l.i) l.b) ≡ sets l.fn.counts 0 (counts_at l.n 8 l.b)
+invariant-loop-i l =
+    let b = l.fn.book.bytes.now in
+    let n = accounts b in
+    sets (l.count-items ++ drop n l.fn.counts) l.i (counts_at (n - l.i) (base l.i) b) ≡ sets l.fn.counts 0 (counts_at n 8 b)

@@ -6,15 +6,16 @@ use Rattle.little.proofs.Numbers.{length_le}
 use Rattle.little.proofs.Stores.{sets_then}
 use Rattle.bookformat.specs.Book.{body, record_bytes}
 use Rattle.bookformat.specs.Lent.{lent, lent_at}
+use Rattle.bookwrite.specs.Lists.{columns_of}
 use Rattle.bookwrite.proofs.put_records.Goals as goal
 
 pub loop-i-preserved : goal.loop-i-preserved
 loop-i-preserved c =
     let l = c.loop-i in
     let s = c.args.list in
-    let v = lent_at l.i s.kinds.now s.options.now s.days.now s.amounts.now in
+    let v = lent_at l.i (columns_of s) in
     let left = length s.kinds.now - (l.i + 1) in
-    let rest = lent left (l.i + 1) s.kinds.now s.options.now s.days.now s.amounts.now in
+    let rest = lent left (l.i + 1) (columns_of s) in
     let e : length s.kinds.now - l.i ≡ suc left = omega arith in
     let at = c.args.p + 16 * l.i in
     let q : c.args.p + 16 * (l.i + 1) ≡ at + length (record_bytes v) = simp (length-append, length_le) (omega arith) in

@@ -1,35 +1,50 @@
-use Prim.Native.Nat.{suc, ◌+◌, ◌*◌, ◌-◌}
+use Prim.Native.Nat.{◌+◌, ◌-◌, ◌<◌}
 use mathlib.Core.Path.{◌≡◌, refl, ap, ◌∙◌}
 use native.Mathlib.Omega.{arith}
-use lib.ListN.{get_or}
+use borrow.Author.Rules.{rules}
+use lib.ListN.{length}
 use Rattle.little.specs.Little.{num, un}
-use Rattle.little.proofs.Numbers.{num_step, top_mono}
+use Rattle.little.proofs.Numbers.{read_more, read_fits, read_all, length_part}
 use Rattle.little.proofs.get.Goals as goal
 
-pub loop-i-init : goal.loop-i-init
-unfolding num un
-loop-i-init g c =
-    let z : g.row.W - g.row.W ≡ 0 = omega arith in
-    rw z (omega arith, refl, omega arith)
+pub loop-byte-init : goal.loop-byte-init
+unfolding un
+loop-byte-init g c = record { value = refl; small = omega arith }
 
 pub overflow_mul-number : goal.overflow_mul-number
-overflow_mul-number g c = omega (arith, top_mono (g.row.W - c.loop-i.i) 7 (omega arith))
+overflow_mul-number g c =
+    let l = c.loop-byte in
+    let q : c.args.p + g.row.W - c.args.p ≡ g.row.W = omega arith in
+    let long : length c.iter.result.rest.now ≡ g.row.W = rw (c.iter.ensures.rest, q) (length_part g.row.W c.args.p c.args.b.now c.requires.within) in
+    omega (
+      arith,
+      read_fits _ c.iter.result.rest.now (cc) l.yielded l.byte-iterator l.yielded_by c.next.result c.next.new.self c.next.ensures.steps
+          l.number g.row.W c.in-Some.byte c.in-Some.is l.invariant long c.requires.narrow,
+    )
 
 pub overflow_add-number : goal.overflow_add-number
-overflow_add-number g c = omega (arith, top_mono (g.row.W - c.loop-i.i) 7 (omega arith))
+overflow_add-number g c =
+    let l = c.loop-byte in
+    let q : c.args.p + g.row.W - c.args.p ≡ g.row.W = omega arith in
+    let long : length c.iter.result.rest.now ≡ g.row.W = rw (c.iter.ensures.rest, q) (length_part g.row.W c.args.p c.args.b.now c.requires.within) in
+    let byte : c.from.result < 256 = search rules in
+    omega (
+      arith,
+      byte,
+      read_fits _ c.iter.result.rest.now (cc) l.yielded l.byte-iterator l.yielded_by c.next.result c.next.new.self c.next.ensures.steps
+          l.number g.row.W c.in-Some.byte c.in-Some.is l.invariant long c.requires.narrow,
+    )
 
-pub loop-i-preserved : goal.loop-i-preserved
-loop-i-preserved g c =
-    let l = c.loop-i in
-    let w = g.row.W - l.i in
-    let p = c.args.p + (l.i - 1) in
-    let b = c.args.b.now in
-    let k : g.row.W - (l.i - 1) ≡ suc w = omega arith in
-    let q : p + 1 ≡ c.args.p + l.i = omega arith in
-    rw k (omega arith, omega (arith, num_step w p b (omega arith) ∙ ap (λ i. get_or b p 0 + 256 * num w i b) q), omega arith)
+pub loop-byte-preserved : goal.loop-byte-preserved
+loop-byte-preserved g c = read_more c.loop-byte.yielded c.loop-byte.number c.in-Some.byte c.from.result c.loop-byte.invariant c.from.ensures (search rules)
 
 pub returns : goal.returns
+unfolding num
 returns g c =
-    let w : g.row.W - c.loop-i.i ≡ g.row.W = omega arith in
-    let p : c.args.p + c.loop-i.i ≡ c.args.p = omega arith in
-    (rw (w, p) at c.loop-i.invariant.1, rw w at c.loop-i.invariant.2)
+    let l = c.loop-byte in
+    let q : c.args.p + g.row.W - c.args.p ≡ g.row.W = omega arith in
+    let part_is = rw q at c.iter.ensures.rest in
+    let long : length c.iter.result.rest.now ≡ g.row.W = rw part_is (length_part g.row.W c.args.p c.args.b.now c.requires.within) in
+    let all = read_all _ c.iter.result.rest.now (cc) l.yielded l.byte-iterator l.yielded_by c.next.result c.next.new.self c.next.ensures.steps
+    l.number g.row.W c.in-None.is l.invariant long in
+    record { value = all.0 ∙ ap un part_is; small = all.1 }

@@ -1,18 +1,31 @@
 use Prim.Native.Nat.{suc, ◌+◌, ◌-◌}
-use mathlib.Core.Path.{◌≡◌}
+use mathlib.Core.Path.{◌≡◌, sym, ◌∙◌}
+use mathlib.Core.List.{append_assoc, append-nil}
 use native.Mathlib.Omega.{arith}
+use lib.ListN.{length, take}
+use lib.Seq.{sets-eq, drop-drop}
+use Rattle.std.proofs.lemmas.List.{take_more_set, take_all}
 use Rattle.little.specs.Little.{le}
+use Rattle.little.proofs.Numbers.{length_le, length_part}
 use Rattle.little.proofs.put.Goals as goal
 
-pub loop-i-preserved : goal.loop-i-preserved
+pub loop-byte-preserved : goal.loop-byte-preserved
 unfolding le
-loop-i-preserved g c =
-    let w : g.row.W - c.loop-i.i ≡ suc (g.row.W - (c.loop-i.i + 1)) = omega arith in
-    let p : c.args.p + (c.loop-i.i + 1) ≡ suc (c.args.p + c.loop-i.i) = omega arith in
-    rw p (rw w at c.loop-i.invariant)
+loop-byte-preserved g c =
+    let l = c.loop-byte in
+    let q : c.args.p + g.row.W - c.args.p ≡ g.row.W = omega arith in
+    let n : length l.byte-items ≡ g.row.W = l.auto.byte-items ∙ rw q (length_part g.row.W c.args.p c.args.out.now c.requires) in
+    let w : g.row.W - l.byte-index ≡ suc (g.row.W - (l.byte-index + 1)) = omega (arith, n, l.auto.byte-items) in
+    rw (take_more_set l.byte-items l.byte-index _ (omega (arith, n, l.auto.byte-items)), append_assoc) (rw w at l.invariant)
 
 pub returns : goal.returns
 unfolding le
 returns g c =
-    let w : g.row.W - c.loop-i.i ≡ 0 = omega arith in
-    rw w at c.loop-i.invariant
+    let l = c.loop-byte in
+    let q : c.args.p + g.row.W - c.args.p ≡ g.row.W = omega arith in
+    let n : length l.byte-items ≡ g.row.W = l.auto.byte-items ∙ rw q (length_part g.row.W c.args.p c.args.out.now c.requires) in
+    let w : g.row.W - l.byte-index ≡ 0 = omega (arith, n, l.auto.byte-items) in
+    let taken : take l.byte-index l.byte-items ≡ le g.row.W c.args.v = rw (w, append-nil) at l.invariant in
+    let all : l.byte-items ≡ le g.row.W c.args.v = sym (take_all l.byte-index l.byte-items (omega (arith, n, l.auto.byte-items))) ∙ taken in
+    rw (all, q, drop-drop g.row.W c.args.p c.args.out.now)
+    (sym (rw (length_le g.row.W c.args.v, append_assoc) at (sets-eq (le g.row.W c.args.v) c.args.out.now c.args.p (omega (arith, length_le g.row.W c.args.v)))))

@@ -1,8 +1,9 @@
-use Prim.Native.Nat.{◌+◌, ◌-◌}
+use Prim.Native.Nat.{◌-◌}
 use mathlib.Core.Path.{◌≡◌}
-use lib.Seq.{sets}
+use mathlib.Core.List.{◌++◌}
+use lib.ListN.{take}
 use Rattle.little.specs.Little.{le}
 use Rattle.little.proofs.put.Given as goal
 
-abbrev pub invariant-loop-i : goal.invariant-loop-i
-invariant-loop-i g l = sets l.out (l.p + l.i) (le (g.row.W - l.i) l.rest) ≡ sets l.initial.out l.p (le g.row.W l.v)
+abbrev pub invariant-loop-byte : goal.invariant-loop-byte
+invariant-loop-byte g l = take l.byte-index l.byte-items ++ le (g.row.W - l.byte-index) l.rest ≡ le g.row.W l.v

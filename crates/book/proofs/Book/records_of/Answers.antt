@@ -8,5 +8,5 @@ returns c =
     let b = c.args.self in
     let s = c.account-s in
     c.new.ensures.events
-    ∙ (ap (λ p. events_at s.result.count (p + 16 * s.result.first) b.bytes.now) (c.base.ensures ∙ ap base c.accounts.ensures.0)
+    ∙ (ap (λ p. events_at s.result.count (p + 16 * s.result.first) b.bytes.now) (c.base.ensures ∙ ap base c.accounts.ensures.value)
     ∙ account_events b.bytes.now c.args.i s.result b.sound s.ensures)

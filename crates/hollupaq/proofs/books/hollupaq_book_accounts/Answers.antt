@@ -1,0 +1,10 @@
+use Rattle.std.proofs.Common.{arith, rules}
+use Rattle.bookformat.specs.Book.{accounts}
+use Rattle.bookformat.proofs.Told.{book_facts}
+use Rattle.hollupaq.proofs.Told.{header_word}
+use Rattle.hollupaq.proofs.books.hollupaq_book_accounts.Goals as goal
+
+pub returns : goal.returns
+returns c =
+    let b = c.args.book.now in
+    header_word b (accounts b) _ _ c.read.result c.map.result c.read.ensures c.map.ensures.cases (λ x y q l. rw (← q) (search rules)) (λ z. omega (arith, (book_facts b z).0)) c.word_of.ensures
