@@ -1,6 +1,6 @@
 -- Every text that is written: it is not empty, so that the promise leaves one answer; and there is room for it.
 use Prim.Native.Nat.{ℕ, zero, suc, ◌^◌, ◌≤◌, ◌<◌}
-use mathlib.Core.Path.{◌≡◌, refl, sym, ap, ◌∙◌}
+use mathlib.Core.Path.{◌≡◌, refl, ap}
 use mathlib.Core.Bool.{cond}
 use mathlib.Core.List.{List}
 use native.Mathlib.Omega.{arith}
@@ -15,7 +15,6 @@ use Rattle.std.proofs.Common.{Result, Ok, Err}
 use Rattle.rules.specs.declared.refusals.Refusal.{Refusal}
 use Rattle.rules.specs.declared.refusals.Refusal.TheVariants.{TooShort}
 use Rattle.rules.proofs.Numbered.{number_back}
-use Rattle.rules.specs.Refusals.{refusal_number, refusal_of}
 use Rattle.report.proofs.Listing.{listing_length, listing_short, refused_length}
 
 -- how long a text can be

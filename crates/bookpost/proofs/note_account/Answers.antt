@@ -3,8 +3,6 @@ use Rattle.std.specs.Iterator.Adapters.{enumerate_count}
 use mir.Syntax.{w64}
 use mir.Val.{to_z, of_z}
 use Rattle.rules.specs.declared.Event.{Event}
-use Rattle.account.specs.declared.Posted.{Posted}
-use Rattle.account.specs.Post.{posted}
 use Rattle.bookformat.proofs.Loops.{unnumbered, unnumbered_more, numbered}
 use Rattle.bookpost.proofs.Noting.{noted_more}
 use Rattle.bookpost.proofs.note_account.Goals as goal

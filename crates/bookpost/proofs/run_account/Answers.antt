@@ -1,4 +1,4 @@
-use Rattle.std.proofs.Common.{rules, List, sym, subst, ◌∙◌, map-id, arith}
+use Rattle.std.proofs.Common.{List, sym, subst, ◌∙◌, map-id, arith}
 use Rattle.std.proofs.lemmas.Iterator.Consumers.{YieldsList-from_first, YieldsList-turn, YieldsList-end}
 use Rattle.rules.specs.declared.Event.{Event}
 use Rattle.bookformat.specs.Finding.{book_account}
@@ -22,7 +22,7 @@ pub loop-e-preserved : goal.loop-e-preserved
 loop-e-preserved c =
     let l = c.loop-e in
     let j = c.judge-answer in
-    let leaves = walked_leaves l.yielded l.m l.refused l.invariant c.in-Some.e j.result j.new.m (search rules) j.ensures in
+    let leaves = walked_leaves l.yielded l.m l.refused l.invariant c.in-Some.e j.result j.new.m (j.array_long ∙ sym (walked_fit l.yielded l.m l.refused l.invariant).words_are) j.ensures in
     one_more l.yielded l.m l.refused l.invariant c.in-Some.e j.result j.new.m c.refusals-refused.result leaves c.refusals-refused.ensures
 
 pub returns : goal.returns
