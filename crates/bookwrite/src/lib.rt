@@ -1,6 +1,5 @@
 // Books written from lent memory. All is tested before the first byte is stored; then one pass stores the book. What stores takes
-// the output and a place: a struct of both would be lent again at each number, and its clauses would have to say that it holds the same bytes;
-// of a part of the output each caller would have to say again where it lies in the whole.
+// the output and a place: a struct of both would be lent again at each number, and its clauses would have to say that it holds the same bytes.
 #![tactic(auto)]
 
 ghost use Rattle.std.specs.Prelude.{◌≡◌, [], ◌∷◌, ◌++◌, ◌+◌, ◌*◌, ◌<◌, ◌≤◌, length};
@@ -66,7 +65,8 @@ fn check(list: LentList, room: usize) -> Result<(), Refusal>
     Refusal::TooShort.when(room < size(list.counts.len(), list.kinds.len()))
 }
 
-// Two numbers of 4 bytes: the header, or an entry of the table.
+// Two numbers of 4 bytes: the header, or an entry of the table. Of a part of the output in place of both, the callers would have to say
+// again where it lies in the whole.
 fn put_entry(out: &mut [u8], p: usize, first: usize, n: usize)
     requires { p + 8 ≤ length out.old }
     ensures { out.new ≡ sets out.old p (le 4 first ++ le 4 n) }
