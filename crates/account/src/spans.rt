@@ -36,13 +36,13 @@ pub const WORDS: usize = LEDGER + ledger::WORDS;
 pub const LAYOUT_NUMBER: u64 = 1_000_002;
 
 // The words of the two parts that are read where they lie, with their length in the type.
-pub fn receipts_in(m: &[u64; WORDS]) -> &[u64; receipts::WORDS]
+pub(crate) fn receipts_in(m: &[u64; WORDS]) -> &[u64; receipts::WORDS]
     ensures { receipts_on result.now ≡ (state_on m.now).receipts }
 {
     m[RECEIPTS..LEDGER].as_array().unwrap()
 }
 
-pub fn ledger_in(m: &[u64; WORDS]) -> &[u64; ledger::WORDS]
+pub(crate) fn ledger_in(m: &[u64; WORDS]) -> &[u64; ledger::WORDS]
     ensures { ledger_on result.now ≡ (state_on m.now).ledger }
 {
     m[LEDGER..WORDS].as_array().unwrap()

@@ -1,11 +1,9 @@
 -- An account that a program keeps: its receipts are far from wrapping, and demand 3 holds of every list posted to it.
 use Prim.Native.Nat.{ℕ, ◌+◌, ◌≤◌}
-use mathlib.Core.Path.{◌≡◌, refl, sym, ap, ◌∙◌}
+use mathlib.Core.Path.{refl, sym, ap, ◌∙◌}
 use mathlib.Core.List.{List, [], ◌∷◌, map}
 use native.Mathlib.Omega.{arith}
 use lib.Dec.{eqb}
-use lib.ListN.{length}
-use borrow.Author.Tests.{eq-eqb, ne_eqb}
 use Rattle.basics.proofs.Cases.{on}
 use Rattle.std.proofs.lemmas.Bool.{cond_both}
 use Rattle.rules.specs.declared.Event.{Event}
@@ -18,13 +16,13 @@ use Rattle.rules.specs.Accepted.{accepted}
 use Rattle.rules.proofs.Lawful.{accepted_lawful}
 use Rattle.rules.proofs.Bounds.{arrears_charged, charged_limit}
 use Rattle.receipts.specs.Receipts.{count_by}
-use Rattle.account.specs.State.{State, account_size, fresh_words, state_on, passes}
+use Rattle.account.specs.State.{State, fresh_words, state_on, passes}
 use Rattle.account.specs.Post.{refusal_at, answer_at, answer_to, words_after}
 use Rattle.account.specs.Many.{account_at, has_account, answer_at_of}
 use Rattle.account.proofs.Exits.{passed_fit}
 use Rattle.claim.specs.Run.{run, answers, LeftBy}
 use Rattle.claim.proofs.Demand.{demand_3, as_run}
-use Rattle.hollupaq.specs.Library.{answer_word, Keeps, Begun, KeptClaim}
+use Rattle.hollupaq.specs.Library.{answer_word, Keeps, KeptClaim}
 use Rattle.hollupaq.proofs.Told.{told_word, said_word}
 
 -- ---- a receipt counts payments, of which there are no more than cents in the limit
@@ -47,13 +45,6 @@ receipt_small_at i all e =
     on (has_account i all)
     (λ q. rw q (receipt_small (account_at i all) e))
     (λ q. rw q (omega arith))
-
--- ---- a new account
-pub begun : (m k : List ℕ) → length m ≡ account_size → k ≡ fresh_words → Begun m 1 k
-begun m k l e = let q = eq-eqb (length m) account_size l in record { answer_is = rw q; words_are = rw q e }
-
-pub not_begun : (m : List ℕ) → (length m ≡ account_size → ⊥) → Begun m 0 m
-not_begun m l = let q = ne_eqb (length m) account_size l in record { answer_is = rw q; words_are = rw q }
 
 -- ---- DEMAND 3
 pub demand_3_kept : (es : List Event) (said : List ℕ) (z : List ℕ) → KeptClaim es said z
