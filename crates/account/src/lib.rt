@@ -23,7 +23,7 @@ pub use spans::WORDS;
 use spans::{LAYOUT, LAYOUT_NUMBER};
 pub use would::would_answer;
 
-// An account by value: 1,920 bytes are copied for each event, which takes twice as long as to lend them.
+// An account by value: 1,920 bytes are copied for each event, which takes twice as long as lending them.
 #[derive(Clone, Copy)]
 pub struct Account {
     pub memory: [u64; WORDS],

@@ -47,16 +47,16 @@ pub struct Money {
 fn debts_on(account: Known, t: u64) -> Debts
     ensures { result ≡ debts_on (state_on account.entry.words.now) t }
 {
-    let c = account.collection();
-    let p = account.medical();
+    let collection = account.collection();
+    let medical = account.medical();
     Debts {
         arrears: ledger::arrears(account.ledger(), t),
         in_force: account.arrangement().in_force(t),
-        notice_live: c.notice_live(t),
-        notice_in_days: c.notice_in_days(t),
-        called: c.called(t),
-        certified: p.certified(t),
-        approved: p.approved(t),
+        notice_live: collection.notice_live(t),
+        notice_in_days: collection.notice_in_days(t),
+        called: collection.called(t),
+        certified: medical.certified(t),
+        approved: medical.approved(t),
     }
 }
 
@@ -120,10 +120,8 @@ fn view_of(service: Service, d: Debts, n: Money) -> View
 pub fn seen(account: Known, e: Event) -> View
     ensures { result ≡ seen_of (view (state_on account.entry.words.now) e) e }
 {
-    let c = account.collection();
-    let d = debts_for(account, e);
-    let n = money_for(account, e);
-    view_of(c.service(), d, n)
+    let service = account.collection().service();
+    view_of(service, debts_for(account, e), money_for(account, e))
 }
 
 // ---- the test
@@ -131,18 +129,17 @@ pub fn seen(account: Known, e: Event) -> View
 fn money_ok(m: &[u64; WORDS]) -> bool
     ensures { result ≡ money_ok (state_on m.now) }
 {
-    let a = Arrangement::load(&m[ARRANGEMENT..RECEIPTS]);
-    let r = receipts::ok(receipts_in(m));
-    let l = ledger::ok(ledger_in(m));
-    a.ok() && r && l
+    Arrangement::load(&m[ARRANGEMENT..RECEIPTS]).ok()
+        && receipts::ok(receipts_in(m))
+        && ledger::ok(ledger_in(m))
 }
 
 fn file_ok(m: &[u64; WORDS]) -> bool
     ensures { result ≡ (file_ok (state_on m.now) && money_ok (state_on m.now)) }
 {
-    let d = Deposit::load(&m[DEPOSIT..MEDICAL]);
-    let p = Medical::load(&m[MEDICAL..ARRANGEMENT]);
-    d.ok() && p.ok() && money_ok(m)
+    Deposit::load(&m[DEPOSIT..MEDICAL]).ok()
+        && Medical::load(&m[MEDICAL..ARRANGEMENT]).ok()
+        && money_ok(m)
 }
 
 // The test that each account reached from a fresh one passes: it is of this layout, and each part passes its own. It goes part by
@@ -151,6 +148,8 @@ fn file_ok(m: &[u64; WORDS]) -> bool
 pub fn ok(m: &[u64; WORDS]) -> bool
     ensures { result ≡ state_ok (state_on m.now) }
 {
-    let c = Collection::load(&m[COLLECTION..DEPOSIT]);
-    m[LAYOUT] == LAYOUT_NUMBER && m[LAST] <= FINAL_DAY && c.ok() && file_ok(m)
+    m[LAYOUT] == LAYOUT_NUMBER
+        && m[LAST] <= FINAL_DAY
+        && Collection::load(&m[COLLECTION..DEPOSIT]).ok()
+        && file_ok(m)
 }

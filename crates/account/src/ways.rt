@@ -2,14 +2,14 @@
 // they can change are touched. Every other kind goes the general way, on which a book of these takes 2.0 to 2.6 times as long as the
 // same rules in place, over the bar of 2. That an event is a payment, or a bill or a fee, stays a clause: `judge` has tested it, and a
 // type for it would be opened again wherever a definition speaks of an event.
-ghost use Rattle.std.specs.Prelude.{◌≡◌, true, ◌<◌, min, length};
+ghost use Rattle.std.specs.Prelude.{◌≡◌, true, min};
 ghost use Rattle.basics.specs.Machine.{largest};
-ghost use Rattle.rules.specs.Kinds.{payment, deposit_asked};
+ghost use Rattle.rules.specs.Kinds.{payment};
 ghost use Rattle.rules.specs.Answer.{answered};
 ghost use Rattle.rules.specs.Table.{charge_of, refusal_by};
 ghost use Rattle.account.specs.State.{account_size, state_on, Fit, view, money_after, service_after};
 ghost use Rattle.account.specs.Post.{Judges};
-ghost use Rattle.account.specs.Looks.{Became, Applied, Free, only_item};
+ghost use Rattle.account.specs.Looks.{Became, Applied, Free, OfMoneyAlone, only_item};
 
 use crate::known::Known;
 use crate::spans::{
@@ -23,7 +23,7 @@ use rules::{Answer, Event, InRange};
 // was tried, with payments stored by `arrangement` as other events are: a book then took 2.0 to 2.1 times as long as the same rules in
 // place, where the bar is 2, and a kept account 5.2, where it is 4.
 fn pass_day(m: &mut [u64; WORDS], e: Event)
-    requires { e.kind < deposit_asked }
+    requires { OfMoneyAlone e }
     ensures { Became m.new (service_after (state_on m.old) e) }
 {
     let t = u64::from(e.day);

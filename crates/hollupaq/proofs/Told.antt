@@ -17,7 +17,7 @@ use Rattle.rules.proofs.Numbered.{number_kept, answered_err}
 use Rattle.rules.specs.Tariff.{is_class, cents_of, bill_refusal, bill_of}
 use Rattle.tariff.proofs.Law.{allowed, bill_in_range}
 use Rattle.bookformat.specs.Book.{size, book_refusal}
-use Rattle.bookformat.specs.Lent.{Columns, sizes_fine, kinds_fine, write_refusal, WroteBook}
+use Rattle.bookformat.specs.Lent.{Columns, write_refusal, WroteBook}
 use Rattle.book.specs.declared.Book.{Book}
 use Rattle.bookformat.proofs.Told.{write_facts, book_in_table, write_in_table}
 use Rattle.bookformat.proofs.Forth.{length_written}
@@ -112,20 +112,12 @@ stored lists old new n w m t e a =
 
 -- ---- what the library stored was written, so that the round trips hold of it (`ListBack` in bookformat/specs/Trips.antt)
 
-small : (b : Bool) (x k : ℕ) → x ≤ 22 → k ≤ 22 → cond b x k ≤ 22
-small true x k p q = p
-small false x k p q = q
-
-write_small : (lists : Columns) (room : ℕ) → write_refusal lists room ≤ 22
-write_small lists room = small (sizes_fine lists) _ 20 (small (kinds_fine lists.kinds) _ 21 (small (leb (size (length lists.counts)
-    (length lists.kinds)) room) 0 22 (omega arith) (omega arith)) (omega arith)) (omega arith)
-
-told_taken : (n v k : ℕ) → n ≤ 22 → 256 + k ≡ told n v → (n ≡ 0) × (k ≡ v)
+told_taken : (n v k : ℕ) → n < length refusals → 256 + k ≡ told n v → (n ≡ 0) × (k ≡ v)
 told_taken zero v k h e = (refl, omega (arith, e))
 told_taken (suc n) v k h e = absurd (omega (arith, e))
 
 pub stored_wrote : (lists : Columns) (old new : List ℕ) (k : ℕ) → Stored lists old new (256 + k)
     → WroteBook lists old new 0 × (k ≡ size (length lists.counts) (length lists.kinds))
 stored_wrote lists old new k s =
-    let p = told_taken _ _ k (write_small lists (length old)) s.answer in
+    let p = told_taken _ _ k (write_in_table lists (length old)) s.answer in
     (record { answer = sym p.0; bytes = s.bytes }, p.1 ∙ length_written lists (length old) p.0)

@@ -50,7 +50,5 @@ pub const MOST_PARTS: u8 = 6;
 
 pub const PART_DAYS: u64 = 30;
 
-// A bill is worked out for classes from 1 to this one, and for at most so many kilowatt-hours.
-pub const LAST_CLASS: u8 = 3;
-
+// A bill is worked out for at most so many kilowatt-hours.
 pub const MOST_USAGE: u64 = 10_000_000;

@@ -6,9 +6,9 @@ pub returns : goal.returns
 returns c =
     rw (
       c.view_of.ensures,
-      c.service.ensures,
-      c.money_for-n.ensures,
-      c.debts_for-d.ensures,
-      c.collection-c.ensures,
+      c.service-service.ensures,
+      c.money_for.ensures,
+      c.debts_for.ensures,
+      c.collection.ensures,
     )
     (seen_is (state_on c.args.account.words.now) c.args.e)
