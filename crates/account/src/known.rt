@@ -1,16 +1,13 @@
 // Memory that is known to be an account, and the parts that are read of it. Where an account is changed it stays a slice with a
 // clause: that it is an account after a step follows from its whole history, and not from the step, so no type could keep it.
-ghost use Rattle.std.specs.Prelude.{◌≡◌, true, false, length, MatchResult};
+ghost use Rattle.std.specs.Prelude.{◌≡◌, true, false, MatchResult};
 ghost use Rattle.rules.specs.declared.refusals.Refusal.TheVariants.{NoAccount};
 ghost use Rattle.receipts.specs.Receipts.{receipts_on};
 ghost use Rattle.ledger.specs.Ledger.{ledger_on};
 ghost use Rattle.account.specs.State.{state_on, passes as is_account, Fit};
 
 use crate::passes;
-use crate::spans::{
-    ARRANGEMENT, COLLECTION, DEPOSIT, LAST, LEDGER, MEDICAL, RECEIPTS, WORDS, ledger_in,
-    receipts_in,
-};
+use crate::spans::{ARRANGEMENT, COLLECTION, DEPOSIT, LAST, LEDGER, MEDICAL, RECEIPTS, WORDS};
 use arrangement::Arrangement;
 use collection::Collection;
 use deposit::Deposit;

@@ -11,8 +11,8 @@ mod step;
 mod ways;
 mod would;
 
-ghost use Rattle.std.specs.Prelude.{◌≡◌, length};
-ghost use Rattle.account.specs.State.{account_size, fresh_words, Fit, passes as is_account};
+ghost use Rattle.std.specs.Prelude.{◌≡◌};
+ghost use Rattle.account.specs.State.{fresh_words, Fit, passes as is_account};
 ghost use Rattle.account.specs.Post.{Judges, Leaves, posted};
 
 use known::Known;

@@ -1,8 +1,7 @@
 // An account after an event that is accepted: each part is lent its span and steps in place. The spans are cut here and in `ways`,
 // where each is lent: a method that lends one on would have to say, for each part, what becomes of all the others.
-ghost use Rattle.std.specs.Prelude.{◌≡◌, length};
 ghost use Rattle.deposit.specs.Deposit.{DepositFit};
-ghost use Rattle.account.specs.State.{account_size, state_on, money_after, file_after, service_after};
+ghost use Rattle.account.specs.State.{state_on, money_after, file_after, service_after};
 ghost use Rattle.account.specs.Looks.{Became, Passing, Applied};
 
 use crate::rows::Offer;

@@ -7,7 +7,7 @@ ghost use Rattle.basics.specs.Machine.{largest};
 ghost use Rattle.rules.specs.Kinds.{payment};
 ghost use Rattle.rules.specs.Answer.{answered};
 ghost use Rattle.rules.specs.Table.{charge_of, refusal_by};
-ghost use Rattle.account.specs.State.{account_size, state_on, Fit, view, money_after, service_after};
+ghost use Rattle.account.specs.State.{state_on, Fit, view, money_after, service_after};
 ghost use Rattle.account.specs.Post.{Judges};
 ghost use Rattle.account.specs.Looks.{Became, Applied, Free, OfMoneyAlone, only_item};
 
