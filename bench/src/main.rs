@@ -17,7 +17,7 @@ use tools::{core, words};
 const STANDING_GOAL: Goal = Goal::of(2.0).with_wish(1.5);
 const FULL_STANDING_GOAL: Goal = Goal::of(1.6);
 const KEPT_GOAL: Goal = Goal::of(4.0);
-const BY_VALUE_GOAL: Goal = Goal::of(15.0);
+const HISTORY_GOAL: Goal = Goal::of(15.0);
 /// Flat, but for what the clock can't tell.
 const GROWTH_GOAL: Goal = Goal::of(1.15);
 
@@ -45,9 +45,9 @@ fn run() -> Result<(), String> {
     println!("\nPosting one event at a time on a kept account, owed asked after each: core to the same rules in place");
     kept("one account", &one[0])?;
     kept("one account, 64 items open", &full[0])?;
-    println!("\nPosting by value, the history of a book: core to the same rules in place");
-    by_value("one account", &one[0])?;
-    by_value("one account, 64 items open", &full[0])?;
+    println!("\nThe history of a book, posted on a lent account: core to the same rules in place");
+    history("one account", &one[0])?;
+    history("one account, 64 items open", &full[0])?;
     println!("\nTime of an event as one account grows, to that of 500 events");
     growth("years of events", books::years)?;
     growth("64 items open", books::full_house)?;
@@ -101,10 +101,10 @@ fn kept(name: &str, events: &[Event]) -> Result<(), String> {
     Ok(())
 }
 
-fn by_value(name: &str, events: &[Event]) -> Result<(), String> {
+fn history(name: &str, events: &[Event]) -> Result<(), String> {
     let book = book_of(&[events.to_vec()])?;
-    let times = posting::by_value(&book, events.len())?;
-    times.show(name, BY_VALUE_GOAL, events.len());
+    let times = posting::history(&book, events.len())?;
+    times.show(name, HISTORY_GOAL, events.len());
     Ok(())
 }
 

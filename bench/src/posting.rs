@@ -22,8 +22,8 @@ pub fn kept(events: &[Event]) -> Result<Times, String> {
     ]))
 }
 
-/// The history of a book of one account, which posts by value.
-pub fn by_value(book: &[u8], events: usize) -> Result<Times, String> {
+/// The history of a book of one account, which posts on a lent account.
+pub fn history(book: &[u8], events: usize) -> Result<Times, String> {
     let (mut numbers, mut owed) = (vec![0; events], vec![0; events]);
     let (mut other_numbers, mut other_owed) = (numbers.clone(), owed.clone());
     core::history_into(book, 0, &mut numbers, &mut owed).map_err(|n| format!("refused {n}"))?;

@@ -28,7 +28,7 @@ pub struct Accounts {
     after_each: Group,
     days_at_the_end: Group,
     days_after_each: Group,
-    by_value: Group,
+    history: Group,
     refused: Group,
     alone: Group,
     around: Group,
@@ -84,7 +84,7 @@ impl Accounts {
         self.lengths.try_one(|| compare(lengths::refused));
         // A book with an unknown kind has no history.
         if good {
-            self.by_value.try_one(|| compare(against::by_value));
+            self.history.try_one(|| compare(against::history));
         }
     }
 
@@ -132,7 +132,7 @@ impl Accounts {
                 &self.days_after_each,
                 "arrears, arrangement, notice and certificate for days, after each event",
             ),
-            (&self.by_value, "the same answers by value"),
+            (&self.history, "the same answers as the history of the book"),
         ]
     }
 

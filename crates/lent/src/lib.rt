@@ -13,3 +13,39 @@ pub fn post_lent(a: &mut Account, e: Event) -> Answer
 {
     account::post(&mut a.memory, e)
 }
+
+#[cfg(test)]
+mod tests {
+    use super::*;
+    use rules::kinds::Kind;
+    use rules::refusals::Refusal;
+
+    fn event(kind: Kind, day: u32, amount: u64) -> Event {
+        Event {
+            kind: kind.number(),
+            option: 0,
+            day,
+            amount,
+        }
+    }
+
+    // Document 01's worked example, run by value and lent: no program of this repository posts by value.
+    #[test]
+    fn both_forms_answer_the_worked_example(rt: HostRuntime) {
+        let mut kept = Account::fresh();
+        let mut lent = Account::fresh();
+        for (e, wanted) in [
+            (event(Kind::Bill, 100, 10_000), Ok(0)),
+            (event(Kind::Bill, 130, 5_000), Ok(0)),
+            (event(Kind::Payment, 131, 4_000), Ok(1)),
+            (event(Kind::Disconnection, 131, 0), Err(Refusal::NoNotice)),
+        ] {
+            let posted = kept.post(e);
+            kept = posted.account;
+            assert_eq!(rt; posted.answer, wanted);
+            assert_eq!(rt; post_lent(&mut lent, e), wanted);
+        }
+        assert_eq!(rt; questions::owed(&kept.memory), 11_075);
+        assert_eq!(rt; questions::owed(&lent.memory), 11_075);
+    }
+}

@@ -97,20 +97,20 @@ fn when_asked<T>(
     told
 }
 
-/// The same numbers, and the same owed, as where each event takes the account by value and hands it back.
-pub fn by_value(events: &[Event], _: &Posted, kept: &Kept) -> Option<String> {
+/// The same numbers, and the same owed, as the history of the book tells.
+pub fn history(events: &[Event], _: &Posted, kept: &Kept) -> Option<String> {
     let book = encode(&[events.to_vec()]);
-    let by_value = core::history(&book, 0);
-    let by_value = by_value.map(|replies| replies.iter().map(|r| (r.number, r.owed)).collect());
+    let told = core::history(&book, 0);
+    let told = told.map(|replies| replies.iter().map(|r| (r.number, r.owed)).collect());
     let number = |&(answer, owed): &(Answer, i64)| match answer {
         Answer::Accepted(_) => (0, owed),
         Answer::Refused(number) => (number, owed),
     };
-    let lent: Vec<(u8, i64)> = kept.replies.iter().map(number).collect();
+    let replied: Vec<(u8, i64)> = kept.replies.iter().map(number).collect();
     unequal(
-        "numbers with what is owed, by value and lent",
-        by_value,
-        Ok(lent),
+        "numbers with what is owed, in the history and on the kept account",
+        told,
+        Ok(replied),
     )
 }
 
@@ -149,7 +149,7 @@ mod tests {
         ("would", would),
         ("told", told),
         ("days", days),
-        ("by value", by_value),
+        ("history", history),
         ("refused", refused),
         ("alone", accepted_alone),
         ("around", around),
@@ -190,7 +190,7 @@ mod tests {
         let receipt = |_: &mut Posted, kept: &mut Kept| kept.replies[2].0 = Answer::Accepted(2);
         assert_eq!(speak(receipt), ["answers"]);
         let owed = |_: &mut Posted, kept: &mut Kept| kept.replies[1].1 -= 75;
-        assert_eq!(speak(owed), ["answers", "by value"]);
+        assert_eq!(speak(owed), ["answers", "history"]);
     }
 
     #[test]
