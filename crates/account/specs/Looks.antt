@@ -101,7 +101,8 @@ pub record Applied (m : List ℕ) (e : Event) (v : View) (k : List ℕ) (r : ℕ
   pub receipt_is : r ≡ receipt_at (state_on m) e
 
 -- ---- the kinds that have a way of their own
--- a bill, a payment, a returned payment or a fee: it concerns money alone, and of the rest the day, and a notice that may lapse
+-- the number of its kind is below 5, as a bill's, a payment's, a returned payment's and a fee's: it concerns money alone, and of the rest
+-- the day, and a notice that may lapse
 abbrev pub OfMoneyAlone : Event → Type 0
 OfMoneyAlone e = e.kind < deposit_asked
 

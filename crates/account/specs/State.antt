@@ -58,7 +58,7 @@ sizes = 1 ∷ 1 ∷ collection_size ∷ deposit_size ∷ medical_size ∷ arrang
 abbrev pub account_size : ℕ
 account_size = 240
 
--- the number of this layout: a million and two, more than any day, with which an account once began
+-- the number of this layout: a million and two, so that no day is it, with which an account once began
 abbrev pub layout_number : ℕ
 layout_number = 1000002
 

@@ -1,5 +1,5 @@
-// Memory that is known to be an account, and the parts that are read of it. Where an account is changed it stays a slice with a
-// clause: that it is an account after a step follows from its whole history, and not from the step, so no type could keep it.
+// Memory that is known to be an account, and the parts that are read of it. Where an account is changed, that it is one is a clause: after a
+// step it follows from its whole history, and not from the step, so no type could keep it. No `impl Model`: contracts speak of its words too.
 ghost use Rattle.std.specs.Prelude.{◌≡◌, true, false, MatchResult};
 ghost use Rattle.rules.specs.declared.refusals.Refusal.TheVariants.{NoAccount};
 ghost use Rattle.receipts.specs.Receipts.{receipts_on};
@@ -7,7 +7,9 @@ ghost use Rattle.ledger.specs.Ledger.{ledger_on};
 ghost use Rattle.account.specs.State.{state_on, passes as is_account, Fit};
 
 use crate::passes;
-use crate::spans::{ARRANGEMENT, COLLECTION, DEPOSIT, LAST, LEDGER, MEDICAL, RECEIPTS, WORDS};
+use crate::spans::{
+    ARRANGEMENT, COLLECTION, DEPOSIT, LAST, MEDICAL, RECEIPTS, WORDS, ledger_in, receipts_in,
+};
 use arrangement::Arrangement;
 use collection::Collection;
 use deposit::Deposit;
@@ -17,7 +19,7 @@ use span::Part;
 
 #[derive(Clone, Copy)]
 pub struct Known<'a> {
-    pub words: &'a [u64],
+    pub words: &'a [u64; WORDS],
     ghost fit: { Fit words.now },
 }
 
@@ -30,7 +32,9 @@ impl<'a> Known<'a> {
             (λ r. (is_account m.now ≡ false) × (r ≡ NoAccount)) }
     {
         if passes(m) {
-            Ok(Known { words: m })
+            Ok(Known {
+                words: m.as_array().unwrap(),
+            })
         } else {
             Err(Refusal::NoAccount)
         }
@@ -43,40 +47,45 @@ impl<'a> Known<'a> {
         self.words[LAST]
     }
 
-    // One method for each part: a generic one would want the bounds of each span as constants beside the trait.
+    // One method for each part: a generic one would want the bounds of each span as constants beside the trait. The words get a name of their
+    // own, since the check takes no part yet of an array behind a field.
     pub fn collection(self) -> Collection
         ensures { result ≡ (state_on self.entry.words.now).collection }
     {
-        Collection::load(&self.words[COLLECTION..DEPOSIT])
+        let m = self.words;
+        Collection::load(&m[COLLECTION..DEPOSIT])
     }
 
     pub fn deposit(self) -> Deposit
         ensures { result ≡ (state_on self.entry.words.now).deposit }
     {
-        Deposit::load(&self.words[DEPOSIT..MEDICAL])
+        let m = self.words;
+        Deposit::load(&m[DEPOSIT..MEDICAL])
     }
 
     pub fn medical(self) -> Medical
         ensures { result ≡ (state_on self.entry.words.now).medical }
     {
-        Medical::load(&self.words[MEDICAL..ARRANGEMENT])
+        let m = self.words;
+        Medical::load(&m[MEDICAL..ARRANGEMENT])
     }
 
     pub fn arrangement(self) -> Arrangement
         ensures { result ≡ (state_on self.entry.words.now).arrangement }
     {
-        Arrangement::load(&self.words[ARRANGEMENT..RECEIPTS])
+        let m = self.words;
+        Arrangement::load(&m[ARRANGEMENT..RECEIPTS])
     }
 
     pub(crate) fn receipts(self) -> &'a [u64; receipts::WORDS]
         ensures { receipts_on result.now ≡ (state_on self.entry.words.now).receipts }
     {
-        self.words[RECEIPTS..LEDGER].as_array().unwrap()
+        receipts_in(self.words)
     }
 
     pub fn ledger(self) -> &'a [u64; ledger::WORDS]
         ensures { ledger_on result.now ≡ (state_on self.entry.words.now).ledger }
     {
-        self.words[LEDGER..WORDS].as_array().unwrap()
+        ledger_in(self.words)
     }
 }

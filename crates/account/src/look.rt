@@ -134,7 +134,7 @@ fn money_ok(m: &[u64; WORDS]) -> bool
         && ledger::ok(ledger_in(m))
 }
 
-fn file_ok(m: &[u64; WORDS]) -> bool
+fn file_and_money_ok(m: &[u64; WORDS]) -> bool
     ensures { result ≡ (file_ok (state_on m.now) && money_ok (state_on m.now)) }
 {
     Deposit::load(&m[DEPOSIT..MEDICAL]).ok()
@@ -151,5 +151,5 @@ pub fn ok(m: &[u64; WORDS]) -> bool
     m[LAYOUT] == LAYOUT_NUMBER
         && m[LAST] <= FINAL_DAY
         && Collection::load(&m[COLLECTION..DEPOSIT]).ok()
-        && file_ok(m)
+        && file_and_money_ok(m)
 }

@@ -19,7 +19,8 @@ const RETURNED_CHECK: u64 = 5;
 // in hours; after hours the next
 const RECONNECTION: u64 = 6;
 
-// The fee of a number, 0 where there is none of that number: it is added, and what is no fee adds nothing.
+// The fee of a number, 0 where there is none of that number: a charge adds it, and where there is no fee it adds nothing. A match, since
+// checked_sub, get and copied in a row would be no plainer.
 pub fn fee(n: u64) -> u64
     ensures { result ≡ fee_of n }
 {

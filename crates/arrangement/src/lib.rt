@@ -112,7 +112,7 @@ impl Part for Arrangement {
 
 // An accepted event, in place, with the arrears and the payment as `after` takes them. That the sums fit is a clause here and there: it
 // follows from the whole history, and not from the step, so that no type could keep it. Of a payment, which is common, one word
-// changes: by `change` a book misses the bar of speed (account/src/ways.rt). Kinds that do not concern the part touch nothing.
+// changes: by `change` a book misses the bar of speed (account/src/ways.rt). Any other kind neither loads nor stores the words.
 // The words are lent as every part's (`span::Part`).
 pub fn step(w: &mut [u64], posted: InRange, arrears: u64, payment: u64)
     requires size { length w.old ≡ arrangement_size }

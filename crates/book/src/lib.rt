@@ -32,7 +32,8 @@ fn records_fine(b: &[u8], p: usize, n: usize) -> bool
     (0..n).all(|i| record_fine(b, p + RECORD * i))
 }
 
-// The table of a accounts: offsets without gaps, counts that sum to r. The sum of 1,024 counts can't wrap.
+// The table of a accounts: offsets without gaps, counts that sum to r. The sum of 1,024 counts can't wrap. A loop, since each entry is held
+// against the sum of those before it, and by their places, as `records_fine` says.
 fn table_fine(b: &[u8], a: usize, r: usize) -> bool
     requires whole { base a ≤ length b.now }
     requires few { a ≤ most_accounts }
@@ -83,7 +84,7 @@ fn entries(b: &[u8]) -> usize
 }
 
 // How many whole records lie behind the table, 0 where it is not whole.
-fn room(b: &[u8]) -> usize
+fn whole_records(b: &[u8]) -> usize
     ensures { result ≡ whole_records b.now }
 {
     if b.len() < HEADER {
@@ -92,19 +93,21 @@ fn room(b: &[u8]) -> usize
     b.len().saturating_sub(base(accounts(b))) / RECORD
 }
 
-// Record k, counted over all accounts; past the end a record of kind 0, which no book has, since every index is promised an answer. Of a
-// book that is refused, what lies there.
+// What stands past the last record: of kind 0, which no book has, since every index is promised an answer.
+const NO_RECORD: Event = Event {
+    kind: 0,
+    option: 0,
+    day: 0,
+    amount: 0,
+};
+
+// Record k, counted over all accounts. Of a book that is refused, what lies there.
 pub fn record(b: &[u8], k: usize) -> Event
     ensures value { result ≡ record_at b.now k }
     ensures in_book { book_refusal b.now ≡ 0 → result ≡ record_of b.now k }
 {
-    if room(b) <= k {
-        return Event {
-            kind: 0,
-            option: 0,
-            day: 0,
-            amount: 0,
-        };
+    if whole_records(b) <= k {
+        return NO_RECORD;
     }
     event_at(b, base(accounts(b)) + RECORD * k)
 }

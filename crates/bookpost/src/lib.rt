@@ -22,7 +22,8 @@ fn refusals(a: Answer) -> u64
     u64::from(a.is_err())
 }
 
-// Account i of a book, judged record by record in lent memory that is a fresh account; says how many records were refused.
+// Account i of a book, judged record by record in lent memory that is a fresh account; says how many records were refused. A loop: a closure
+// that posts would have to say at each turn what became of the memory.
 pub fn run_account(book: Book, i: usize, m: &mut [u64; WORDS]) -> u64
     requires { m.old ≡ fresh_words }
     ensures { Ran m.new result (book_account book.entry.bytes.now i) }

@@ -65,8 +65,8 @@ fn check(list: LentList, room: usize) -> Result<(), Refusal>
     Refusal::TooShort.when(room < size(list.counts.len(), list.kinds.len()))
 }
 
-// Two numbers of 4 bytes: the header, or an entry of the table. Of a part of the output in place of both, the callers would have to say
-// again where it lies in the whole.
+// Two numbers of 4 bytes: the header, or an entry of the table. Were the part of the output lent in place of output and byte, the callers
+// would have to say again where it lies.
 fn put_entry(out: &mut [u8], p: usize, first: usize, n: usize)
     requires { p + 8 ≤ length out.old }
     ensures { out.new ≡ sets out.old p (le 4 first ++ le 4 n) }
@@ -106,8 +106,8 @@ fn put_record(out: &mut [u8], p: usize, e: Event)
     put::<8>(out, p + 8, e.amount);
 }
 
-// Every record, from byte p on, each at its place for the same reason. The other fields are read at the index of the first, since a zip
-// of four iterators is no plainer.
+// Every record, from byte p on, by its place, as `put_table` stores entries. The other fields are read at the index of the first, since a
+// zip of four iterators is no plainer.
 fn put_records(list: LentList, out: &mut [u8], p: usize)
     requires options { length list.options.now ≡ length list.kinds.now }
     requires days { length list.days.now ≡ length list.kinds.now }

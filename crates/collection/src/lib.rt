@@ -1,6 +1,6 @@
 // Collection, in its own words of an account's memory: the service, the newest final notice, and the calls that a
-// disconnection may ask for. What takes the words takes the slice that an account lends, with its length as a clause: made an array
-// at each call it would be no plainer.
+// disconnection may ask for. The words come as the slice that an account lends, with its length as a clause: what changes them can take
+// no array (`span::Part`), and of what asks, `watches` and `quiet` look at one word.
 #![tactic(auto)]
 
 ghost use Rattle.std.specs.Prelude.{◌≡◌, ◌+◌, eqb, length};
@@ -227,7 +227,8 @@ pub fn quiet(w: &[u64]) -> bool
     w[NOTICE_LIVE] == 0
 }
 
-// An event that is none of collection's can only make a notice lapse.
+// An event that is none of collection's can only make a notice lapse: of the words one changes, and only where there is a notice, since
+// most events come by here.
 pub fn lapse(w: &mut [u64], arrears: u64)
     requires { length w.old ≡ collection_size }
     ensures { collection_on w.new ≡ lapsed_by (collection_on w.old) arrears }

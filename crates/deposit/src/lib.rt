@@ -178,7 +178,7 @@ impl Part for Deposit {
     }
 }
 
-// Whether the event is of a kind that changes the part.
+// Whether the event is of a kind that changes the part: any other neither loads nor stores its words.
 fn concerns(e: Event) -> bool
     ensures { result ≡ concerns e }
 {
@@ -195,7 +195,8 @@ fn concerns(e: Event) -> bool
     )
 }
 
-// The event is accepted. The words are lent as every part's (`span::Part`).
+// The event is accepted. The words are lent as every part's (`span::Part`). That the sums fit is a clause here, in `after` and in account:
+// it follows from the whole history, and not from the step, so that no type could keep it.
 pub fn step(w: &mut [u64], posted: InRange)
     requires w_len { length w.old ≡ deposit_size }
     requires deposit_fit { DepositFit (deposit_on w.old) }

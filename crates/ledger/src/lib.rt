@@ -37,7 +37,7 @@ const RING: usize = 6;
 
 pub const WORDS: usize = RING + 2 * (MOST_OPEN as usize);
 
-// What the table asks of every event.
+// The sums that the table looks at, whatever the event.
 #[derive(Clone, Copy)]
 pub struct Sums {
     pub charged: u64,
@@ -120,6 +120,7 @@ struct Mark {
     below: u64,
 }
 
+// By the items' numbers, as their places are: an iterator would count them too.
 #[tactic(auto, using(crate::proofs::Turns::stop, crate::proofs::Turns::pass))]
 fn first_open(w: &[u64; WORDS]) -> Mark
     ensures { Settled (ledger_on w.now) result.closed result.below }

@@ -11,7 +11,7 @@ use rules::limits::{APPROVAL_DAYS, CERTIFICATE_DAYS, FINAL_DAY};
 use rules::{Event, InRange};
 use span::Part;
 
-// The last day with the longest certificate, and with the longest approval.
+// The last day plus the longest certificate, and plus the longest approval.
 const LAST_CERTIFIED: u64 = FINAL_DAY + CERTIFICATE_DAYS;
 
 const LAST_APPROVED: u64 = FINAL_DAY + APPROVAL_DAYS;
@@ -97,7 +97,8 @@ impl Part for Medical {
     }
 }
 
-// An accepted event, in place, in words that are lent as every part's (`span::Part`). Kinds that do not concern the part touch nothing.
+// An accepted event, in place, in words that are lent as every part's (`span::Part`). The kinds are asked first, so that any other event
+// neither loads nor stores the words.
 pub fn step(w: &mut [u64], posted: InRange)
     requires { length w.old ≡ medical_size }
     ensures { medical_on w.new ≡ medical_after (medical_on w.old) posted.event }

@@ -32,10 +32,8 @@ fn at_till(n: u64) -> Fields
     ensures { result ≡ at_till n }
 {
     Fields {
-        option_from: 0,
         option_to: LAST_TILL,
-        amount_from: 1,
-        amount_to: n,
+        ..amount_to(n)
     }
 }
 

@@ -13,17 +13,17 @@ use rules::kinds::Kind;
 use rules::limits::{KNOWN_RECEIPTS, LAST_TILL, LIMIT};
 use rules::{Event, InRange};
 
-// Counts and rings lie in one slice: programs in C keep the account's memory, so its layout is fixed. The count of a till stands at its
-// number, and the rings follow.
-const RECENT: usize = LAST_TILL as usize + 1;
+// How many tills there are: the count of each stands at its number, and the rings follow. They lie in one slice, since programs in C keep
+// the account's memory, whose layout is fixed.
+const TILLS: usize = LAST_TILL as usize + 1;
 
-pub const WORDS: usize = RECENT + RECENT * (KNOWN_RECEIPTS as usize);
+pub const WORDS: usize = TILLS + TILLS * (KNOWN_RECEIPTS as usize);
 
 // Where the payment of a till's receipt stands.
 fn place(till: u8, receipt: u64) -> usize
     ensures { result ≡ tills + place till receipt }
 {
-    RECENT + (KNOWN_RECEIPTS as usize) * usize::from(till) + ((receipt % KNOWN_RECEIPTS) as usize)
+    TILLS + (KNOWN_RECEIPTS as usize) * usize::from(till) + ((receipt % KNOWN_RECEIPTS) as usize)
 }
 
 // ---- what it answers
@@ -63,7 +63,7 @@ pub fn named(w: &[u64; WORDS], e: Event) -> u64
 pub fn ok(w: &[u64; WORDS]) -> bool
     ensures { result ≡ receipts_ok (receipts_on w.now) }
 {
-    w[..RECENT].iter().all(|n| *n <= LIMIT)
+    w[..TILLS].iter().all(|n| *n <= LIMIT)
 }
 
 // ---- its step

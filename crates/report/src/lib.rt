@@ -23,7 +23,7 @@ use rules::Service;
 use rules::refusals::Refusal;
 use text::{put_bytes, put_number, width};
 
-// The longest file that the program reads.
+// The longest file that the program takes for a book.
 pub const LONGEST_INPUT: usize = 65_536;
 
 // The bytes of the heading, and the most that the line of an account takes.
@@ -89,7 +89,7 @@ fn put_account(book: Book, i: usize, out: &mut [u8], p: usize) -> usize
     put_line(out, p, i as u64, s)
 }
 
-// Stores the lines of all accounts.
+// Stores the lines of all accounts. A loop, as each line begins where the one before it ended.
 fn put_lines(book: Book, out: &mut [u8], p: usize) -> usize
     requires { p + length (lines_of 0 (decode book.bytes.now)) ≤ length out.old }
     ensures { Put (lines_of 0 (decode book.entry.bytes.now)) out.old out.new p result }

@@ -28,7 +28,7 @@ pub enum Kind {
 pub struct UnknownKind(pub u8);
 
 impl Kind {
-    // The papers' word for it. Not `From`: u64::from(u8::from(kind)) would be no plainer where it is told.
+    // The papers' word for it. Not `From`: an event is asked `is(kind)`, and u8::from(kind) there would be no plainer.
     pub fn number(self) -> u8
         ensures { result ≡ kind_number self }
     {

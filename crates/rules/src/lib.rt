@@ -1,4 +1,4 @@
-// The words of the rules: an event, the service, an answer, a charge, what the table of refusals looks at, and a line of a bill.
+// The words of the rules: an event, the service, an answer, what the table of refusals looks at, a block of a schedule and a line of a bill.
 // The rules themselves are in specs/, over lists of events alone; the table as code is the crate `table`.
 #![tactic(auto)]
 

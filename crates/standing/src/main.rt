@@ -1,4 +1,4 @@
-// Prints the standing of the accounts of a book, which comes from standard input: a line for each account, or one line
+// Prints the standing of the accounts of a book, which comes from standard input: a heading and a line for each account, or one line
 // that says by which number the book is refused.
 #![tactic(auto)]
 
@@ -39,7 +39,7 @@ fn put_text(book: &[u8], out: &mut [u8; ROOM]) -> usize
     report_input(book, out).unwrap()
 }
 
-// Hands a text to the output: nothing but the whole text for what was read.
+// Hands a text to the output: nothing but the whole text for what was read, which the contract alone looks at.
 fn write<W: Write>(output: &mut W, book: &[u8], text: &[u8]) -> io::Result<()>
     requires { text.now ≡ input_text book.now }
     ensures { OnOk result (Appends (W.contents output.old) (W.contents output.new) (input_text book.now)) }
@@ -54,6 +54,7 @@ enum Failed {
     Writing,
 }
 
+// By hand: a derive of it would be of one more library to trust.
 impl fmt::Display for Failed {
     fn fmt<W: fmt::Write>(&self, f: &mut fmt::Formatter<W>) -> fmt::Result {
         f.write_str(match self {
@@ -64,7 +65,7 @@ impl fmt::Display for Failed {
 }
 
 // The whole work, from any input to any output: what is written is the text for all that the input had, and no other
-// byte. One byte more is read than a book may have, so that a longer file is seen. Where a read fails, the text is that
+// byte. Nothing is on the heap: one byte more is read than the program takes for a book, so that a longer file is seen. Where a read fails, the text is that
 // for what came before it, and the failure is told afterwards. It leaves by let .. else: behind map_err(..)? what the
 // read promised is not at hand.
 fn answer<R: Read, W: Write>(input: &mut R, output: &mut W) -> Result<(), Failed>

@@ -47,8 +47,8 @@ pub fn moved_rows(v: View) -> Result<(), Refusal>
     credit_rows(v.credited, v.held)
 }
 
-// 5: a call while the service is not on.
-pub fn call_row(v: View) -> Result<(), Refusal>
+// 5, of a call, a final notice and a disconnection: the service is not on.
+pub fn service_row(v: View) -> Result<(), Refusal>
     ensures { result ≡ answered (cond (not (is_on v.service)) 5 0) tt }
 {
     Refusal::WrongService.when(!v.service.is_on())
@@ -58,7 +58,7 @@ pub fn call_row(v: View) -> Result<(), Refusal>
 fn collection_rows(v: View) -> Result<(), Refusal>
     ensures { result ≡ answered (collection_rows v 0) tt }
 {
-    call_row(v)?;
+    service_row(v)?;
     Refusal::LowArrears.when(v.arrears < ENOUGH)
 }
 

@@ -1,5 +1,6 @@
 // The table of refusals as code: rows 4 to 19, of a View and an event. Only the rows that concern the event's kind are asked.
-// What is public takes any View and any Event, and each contract is an equation with the rules' definition.
+// What is public takes any View, any event and any sums. Each contract is an equation with a definition, of the rules, or of this crate for
+// the rows of one kind.
 #![tactic(auto)]
 
 mod arms;
@@ -58,7 +59,7 @@ fn from_row5(v: View, e: Event, charge: u64) -> Result<(), Refusal>
         Kind::Payout => arms::over_row(v.credits, v.charged, e.amount),
         Kind::Arrangement => Refusal::NothingToArrange.when(v.arrears == 0 || v.in_force),
         Kind::FinalNotice => arms::notice_rows(v, charge),
-        Kind::Call => arms::call_row(v),
+        Kind::Call => arms::service_row(v),
         Kind::Disconnection => arms::cut_rows(v),
         Kind::Reconnection => arms::reconnection_rows(v, charge),
         Kind::Closing => arms::credit_rows(v.credited, v.held),
