@@ -2,10 +2,10 @@
 // accounts, one after another, into a slice of its own. The book is tested first; then one pass reads it.
 #![tactic(auto)]
 
-ghost use Rattle.std.specs.Prelude.{◌≡◌, ◌+◌, ◌*◌, ◌≤◌, true, length};
+ghost use Rattle.std.specs.Prelude.{◌≡◌, ◌≤◌, true, length};
 ghost use Rattle.std.proofs.lemmas.List.Edits.{sets};
 ghost use Rattle.rules.specs.Answer.{answered, number_of};
-ghost use Rattle.bookformat.specs.Book.{accounts, events_at, counts_at, decode};
+ghost use Rattle.bookformat.specs.Book.{accounts, counts_at, decode};
 ghost use Rattle.bookformat.specs.Lent.{kinds_of, options_of, days_of, amounts_of, long_enough, read_refusal, Left, Gave};
 ghost use Rattle.bookread.specs.Memory.{columns_of, SameSlices};
 
@@ -49,28 +49,25 @@ fn take_counts(book: Book, counts: &mut [u32])
     }
 }
 
-// The n records from byte p on, each field into its slice, at the index of the record: a zip with four slices is no plainer. Slices, since
-// a loop over the lent struct would have to keep the length and the identity of each of its slices, which is no plainer.
+// Records, each field into its slice, at the index of the record: a zip with four slices is no plainer. Slices, since a loop over the lent
+// struct would have to keep the length and the identity of each of its slices, which is no plainer.
 fn take_records(
-    b: &[u8],
-    p: usize,
-    n: usize,
+    records: Records,
     kinds: &mut [u8],
     options: &mut [u8],
     days: &mut [u32],
     amounts: &mut [u64],
 )
-    requires within { p + 16 * n ≤ length b.now }
-    requires kinds_room { n ≤ length kinds.old }
-    requires options_room { n ≤ length options.old }
-    requires days_room { n ≤ length days.old }
-    requires amounts_room { n ≤ length amounts.old }
-    ensures kinds_after { kinds.new ≡ sets kinds.old 0 (kinds_of (events_at n p b.now)) }
-    ensures options_after { options.new ≡ sets options.old 0 (options_of (events_at n p b.now)) }
-    ensures days_after { days.new ≡ sets days.old 0 (days_of (events_at n p b.now)) }
-    ensures amounts_after { amounts.new ≡ sets amounts.old 0 (amounts_of (events_at n p b.now)) }
+    requires kinds_room { length records ≤ length kinds.old }
+    requires options_room { length records ≤ length options.old }
+    requires days_room { length records ≤ length days.old }
+    requires amounts_room { length records ≤ length amounts.old }
+    ensures kinds_after { kinds.new ≡ sets kinds.old 0 (kinds_of records.entry) }
+    ensures options_after { options.new ≡ sets options.old 0 (options_of records.entry) }
+    ensures days_after { days.new ≡ sets days.old 0 (days_of records.entry) }
+    ensures amounts_after { amounts.new ≡ sets amounts.old 0 (amounts_of records.entry) }
 {
-    for (i, e) in Records::new(b, p, n).enumerate() {
+    for (i, e) in records.enumerate() {
         kinds[i] = e.kind;
         options[i] = e.option;
         days[i] = e.day;
@@ -85,10 +82,9 @@ fn take_book(book: Book, memory: &mut LentMemory)
     ensures same { SameSlices memory.old memory.new }
 {
     take_counts(book, memory.counts);
+    let start = base(book.accounts());
     take_records(
-        book.bytes,
-        base(book.accounts()),
-        book.records(),
+        Records::new(book.bytes, start, book.records()),
         memory.kinds,
         memory.options,
         memory.days,

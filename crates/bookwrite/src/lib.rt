@@ -2,7 +2,7 @@
 // the output and a place: a struct of both would be lent again at each number, and its clauses would have to say that it holds the same bytes.
 #![tactic(auto)]
 
-ghost use Rattle.std.specs.Prelude.{◌≡◌, [], ◌∷◌, ◌++◌, ◌+◌, ◌*◌, ◌<◌, ◌≤◌, length};
+ghost use Rattle.std.specs.Prelude.{◌≡◌, [], ◌∷◌, ◌++◌, ◌+◌, ◌*◌, ◌≤◌, length};
 ghost use Rattle.std.specs.List.{sum};
 ghost use Rattle.std.proofs.lemmas.List.Edits.{sets};
 ghost use Rattle.little.specs.Little.{le};

@@ -1,5 +1,4 @@
 // The three classes of a bill, by the rules' numbers; specs/Classes.antt has the same names.
-ghost use Rattle.std.specs.Prelude.{◌≡◌};
 ghost use Rattle.tariff.specs.Classes.{Decodes};
 
 #[derive(Clone, Copy)]
