@@ -19,16 +19,20 @@ use Rattle.rules.specs.Refusals.{refusal_number, refusals}
 use Rattle.rules.specs.History.{History}
 use Rattle.rules.specs.Money.{owed}
 use Rattle.rules.specs.Answer.{Answer, answered, number_of}
-use Rattle.rules.specs.Accepted.{offered, accepted, accepted_after, answer, answers_after, answers_by}
+use Rattle.rules.specs.Accepted.{Lawful, offered, accepted, accepted_after, answer, answers_after, answers_by}
 use Rattle.little.proofs.Stores.{sets_front, sets_then}
 use Rattle.bookformat.specs.Lent.{after}
 use Rattle.bookformat.specs.Book.{book_refusal}
 use Rattle.bookformat.specs.Finding.{book_account}
 use Rattle.bookformat.proofs.Told.{told, unchanged, or_zero, book_in_table, or_in_table}
-use Rattle.account.specs.State.{fresh_words}
+use Rattle.rules.proofs.Lawful.{offered_lawful}
+use Rattle.account.specs.State.{fresh_words, words_of, account_of}
 use Rattle.account.specs.Post.{answer_to, words_after}
 use Rattle.questions.specs.Questions.{owed_in}
+use Rattle.questions.proofs.Laws.{laws}
+use Rattle.questions.proofs.Told.{owed_is}
 use Rattle.claim.specs.Run.{run}
+use Rattle.claim.proofs.Compose.{run_same}
 use Rattle.claim.proofs.Demand.{demand_3}
 use Rattle.claim.proofs.Walk.{run_more}
 use Rattle.bookpost.specs.BookHistory.{numbers_of, owed_from, history_refusal, ToldHistory}
@@ -53,6 +57,20 @@ length_numbers es = length-map (answers_by es) number_of ∙ length_answers [] e
 length_owed : (h : History) (es : List Event) → length (owed_from h es) ≡ length es
 length_owed h [] = refl
 length_owed h (e ∷ es) = ap suc (length_owed (offered h e) es)
+
+-- what is owed after each event of a list that is posted to the memory m
+abbrev owed_run : List ℕ → List Event → List ℤ
+owed_run m [] = []
+owed_run m (e ∷ es) = owed_in (words_after m e) ∷ owed_run (words_after m e) es
+
+-- from the account of any lawful history on, and not of a fresh one alone; for the reader
+pub owed_run_lem : (h : History) (es : List Event) → Lawful h → owed_run (words_of (account_of h)) es ≡ owed_from h es
+owed_run_lem h [] w = refl
+owed_run_lem h (e ∷ es) w =
+    let w2 = offered_lawful h e w in
+    let k = laws (offered h e) w2 in
+    ap (λ m. owed_in m ∷ owed_run m es) (run_same h (e ∷ []) w)
+    ∙ (ap (λ x. x ∷ owed_run (words_of (account_of (offered h e))) es) (owed_is (offered h e) k) ∙ ap (λ l. owed (offered h e) ∷ l) (owed_run_lem (offered h e) es w2))
 
 -- these events are posted and noted
 pub record Noted (ns₀ : List ℕ) (os₀ : List ℤ) (es : List Event) (ns : List ℕ) (os : List ℤ) (m : List ℕ) : Type 0 where
