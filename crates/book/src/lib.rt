@@ -33,7 +33,8 @@ fn records_fine(b: &[u8], p: usize, n: usize) -> bool
 }
 
 // The table of a accounts: offsets without gaps, counts that sum to r. The sum of 1,024 counts can't wrap. A loop, since each entry is held
-// against the sum of those before it, and by their places, as `records_fine` says.
+// against the sum of those before it, and by their places, as `records_fine` says. An entry's two numbers are read where they are wanted: a
+// function that reads an entry would be asked for one of them in half the places.
 fn table_fine(b: &[u8], a: usize, r: usize) -> bool
     requires whole { base a ≤ length b.now }
     requires few { a ≤ most_accounts }

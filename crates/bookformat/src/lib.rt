@@ -31,7 +31,7 @@ pub struct Span {
     pub count: usize,
 }
 
-// How many accounts the header tells of, and how many records. They count what lies in memory, so each is a usize: a u32, which would
+// How many accounts the header tells of, and how many records: two words of it, each with a name in the definitions. They count what lies in memory, so each is a usize: a u32, which would
 // say the bound, would be widened wherever it is used.
 pub fn accounts(b: &[u8]) -> usize
     requires { 8 ≤ length b.now }

@@ -96,6 +96,7 @@ impl Notice {
         self.live == 1 && window(self.day, 0, NOTICE_TO, t)
     }
 
+    // A question of its own beside `is_live`, as the rules have the two.
     fn in_days(self, t: u64) -> bool
         ensures { result ≡ in_days_by self t }
     {
@@ -219,7 +220,8 @@ pub fn watches(w: &[u64], e: Event) -> bool
     e.is(Kind::FinalNotice) || w[NOTICE_LIVE] == 1
 }
 
-// Whether there is no notice that an event could make lapse.
+// Whether there is no notice that an event could make lapse. Not the contrary of `watches`: a mark that is neither 0 nor 1 is no live
+// notice, and is cleared all the same.
 pub fn quiet(w: &[u64]) -> bool
     requires { length w.now ≡ collection_size }
     ensures { result ≡ eqb (collection_on w.now).notice.live 0 }
@@ -228,7 +230,7 @@ pub fn quiet(w: &[u64]) -> bool
 }
 
 // An event that is none of collection's can only make a notice lapse: of the words one changes, and only where there is a notice, since
-// most events come by here.
+// most events come by here. `Notice::after` has the same bar, of the events that are collection's.
 pub fn lapse(w: &mut [u64], arrears: u64)
     requires { length w.old ≡ collection_size }
     ensures { collection_on w.new ≡ lapsed_by (collection_on w.old) arrears }
