@@ -7,7 +7,7 @@ use mathlib.Core.Logic.{◌⊎◌, inl, inr}
 use native.Mathlib.Omega.{arith}
 use native.Mathlib.Nat.{add-zero}
 use lib.Dec.{eqb, leb, ltb}
-use lib.ListN.{length, get_or, set}
+use lib.ListN.{length, get_or}
 use borrow.Author.Tests.{eqb-true, ne_eqb, lt-leb}
 use Rattle.basics.specs.Machine.{largest}
 use Rattle.basics.proofs.Cases.{on_eq}
@@ -26,7 +26,7 @@ use Rattle.rules.proofs.Room.{Room, room}
 use Rattle.table.specs.ByKind.{from_row5, item_rows, credit_rows}
 use Rattle.table.proofs.ByKind.{of_item}
 use Rattle.collection.specs.declared.Collection.{Collection}
-use Rattle.collection.specs.Collection.{collection_size, collection_on, service_by, lapsed_by, collection_after}
+use Rattle.collection.specs.Collection.{collection_on, service_by, collection_after}
 use Rattle.collection.proofs.Others.{collection_other}
 use Rattle.deposit.specs.Deposit.{concerns}
 use Rattle.deposit.proofs.Others.{deposit_other}
@@ -39,7 +39,7 @@ use Rattle.ledger.proofs.Test.{ledger_room}
 use Rattle.account.specs.State.{State, sizes, account_size, state_of, state_on, view, with_money, with_file, with_service, money_after, file_after, service_after, applied}
 use Rattle.account.specs.Post.{receipt_at}
 use Rattle.account.specs.Looks.{Became, Applied, Free, only_item}
-use Rattle.account.proofs.Steps.{day_set, money_by, steps_are, receipt_by}
+use Rattle.account.proofs.Steps.{money_by, steps_are, receipt_by}
 
 -- ---- what an event that passes has room for
 module _ (m : List ℕ) (e : Event) (f : Free m e) where
@@ -127,7 +127,7 @@ way_is m a c e v l p q = steps_are m a a c e v p (record { words_are = p.words_a
 quiet_same : (c : Collection) (e : Event) (owing : ℕ) → e.kind < deposit_asked → c.notice.live ≡ 0 → c ≡ collection_after c e owing
 quiet_same c e owing k n = grind (arith, collection_other c e owing (omega arith))
 
--- where no notice lives the day is all that changes; `pass_day` promises the same of what it leaves
+-- where no notice lives the day is all that changes; for the reader
 pub quiet_by_lem : (m : List ℕ) → length m ≡ account_size → (e : Event) → e.kind < deposit_asked → (ys : List ℕ) → ys ≡ e.day ∷ []
     → eqb (collection_on (part sizes 2 (back sizes 1 ys m))).notice.live 0 ≡ true → Became (back sizes 1 ys m) (service_after (state_on m) e)
 quiet_by_lem m l e k ys q n =
@@ -135,21 +135,6 @@ quiet_by_lem m l e k ys q n =
     let none : (state_on m).collection.notice.live ≡ 0 = eqb-true _ 0 (sym (ap (λ cs. eqb (collection_on (get_or cs 2 [])).notice.live 0) t.cuts) ∙ n) in
     let same = quiet_same (state_on m).collection e (arrears_by (state_on m).ledger e.day) k none in
     record { words_are = t.words_are; state_is = ap state_of t.cuts ∙ (λ i. with_service (state_on m) (get_or (q i) 0 0) (same i)) }
-
-pub lapse_by : (m : List ℕ) → length m ≡ account_size → (e : Event) → e.kind < deposit_asked → (t : ℕ) → t ≡ e.day → (ws : List ℕ) (due : ℕ) → length ws ≡ collection_size
-    → due ≡ arrears_by (ledger_on (part sizes 7 (set m 1 t))) t
-    → collection_on ws ≡ lapsed_by (collection_on (part sizes 2 (set m 1 t))) due
-    → Became (back sizes 2 ws (set m 1 t)) (service_after (state_on m) e)
-lapse_by m l e k t q ws due a d p =
-    let s = day_set t (here sizes m l) in
-    let r = then sizes 2 ws (omega arith) a s in
-    let d2 = d ∙ (ap (λ cs. arrears_by (ledger_on (get_or cs 7 [])) t) s.cuts ∙ ap (arrears_by (state_on m).ledger) q) in
-    let p2 =
-    p
-    ∙ (ap (λ cs. lapsed_by (collection_on (get_or cs 2 [])) due) s.cuts
-    ∙ (ap (lapsed_by (state_on m).collection) d2
-    ∙ sym (collection_other (state_on m).collection e (arrears_by (state_on m).ledger e.day) (omega (arith, k))))) in
-    record { words_are = r.words_are; state_is = ap state_of r.cuts ∙ (λ i. with_service (state_on m) (q i) (p2 i)) }
 
 -- ---- the money
 -- of a payment

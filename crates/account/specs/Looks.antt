@@ -1,11 +1,11 @@
 -- What the code of one posting works with: what it reads of an account, and what its steps ask and leave.
-use Rattle.std.specs.Prelude.{ℕ, Option, min, ◌≡◌, ◌<◌, Bool, false, cond, ◌&&◌, ◌||◌, List, length}
+use Rattle.std.specs.Prelude.{ℕ, Option, min, ◌≡◌, Bool, false, cond, ◌&&◌, ◌||◌, List, length}
 use Rattle.std.specs.Bool.{then_some}
 use Rattle.basics.specs.Machine.{largest}
 use Rattle.rules.specs.declared.Event.{Event}
 use Rattle.rules.specs.declared.View.{View}
 use Rattle.rules.specs.declared.Service.{Service}
-use Rattle.rules.specs.Kinds.{bill, returned_payment, fee, deposit_asked, deposit_moved}
+use Rattle.rules.specs.Kinds.{bill, returned_payment, fee, deposit_moved}
 use Rattle.rules.specs.History.{is}
 use Rattle.rules.specs.Money.{charges}
 use Rattle.rules.specs.Table.{charge_of, refusal_by}
@@ -101,11 +101,6 @@ pub record Applied (m : List ℕ) (e : Event) (v : View) (k : List ℕ) (r : ℕ
   pub receipt_is : r ≡ receipt_at (state_on m) e
 
 -- ---- the kinds that have a way of their own
--- the number of its kind is below 5, as a bill's, a payment's, a returned payment's and a fee's: it concerns money alone, and of the rest
--- the day, and a notice that may lapse
-abbrev pub OfMoneyAlone : Event → Type 0
-OfMoneyAlone e = e.kind < deposit_asked
-
 -- a bill or a fee: it makes an item, and does no more
 abbrev pub only_item : Event → Bool
 only_item e = is bill e || is fee e

@@ -35,7 +35,7 @@ fn keep_file(m: &mut [u64; WORDS], posted: InRange)
 }
 
 // Service, notice and calls, and the day. The arrears after the event are worked out only where a notice could lapse by them.
-fn set_service(m: &mut [u64; WORDS], e: Event)
+pub fn set_service(m: &mut [u64; WORDS], e: Event)
     ensures { Became m.new (service_after (state_on m.old) e) }
 {
     let t = u64::from(e.day);

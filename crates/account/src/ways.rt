@@ -1,5 +1,5 @@
-// Payments, bills and fees are most of a book, so they have ways of their own: only their rows are asked, and only the words that
-// they can change are touched. Every other kind goes the general way, on which a book of these takes 2.0 to 2.6 times as long as the
+// Payments, bills and fees are most of a book, so they have ways of their own: only their rows are asked, and only the parts that
+// they can change step. Every other kind goes the general way, on which a book of these takes 3.1 to 3.3 times as long as the
 // same rules in place, over the bar of 2. That an event is a payment, or a bill or a fee, stays a clause: `judge` has tested it, and a
 // type for it would be opened again wherever a definition speaks of an event.
 ghost use Rattle.std.specs.Prelude.{◌≡◌, true, min};
@@ -7,33 +7,16 @@ ghost use Rattle.basics.specs.Machine.{largest};
 ghost use Rattle.rules.specs.Kinds.{payment};
 ghost use Rattle.rules.specs.Answer.{answered};
 ghost use Rattle.rules.specs.Table.{charge_of, refusal_by};
-ghost use Rattle.account.specs.State.{state_on, Fit, view, money_after, service_after};
+ghost use Rattle.account.specs.State.{state_on, Fit, view, money_after};
 ghost use Rattle.account.specs.Post.{Judges};
-ghost use Rattle.account.specs.Looks.{Became, Applied, Free, OfMoneyAlone, only_item};
+ghost use Rattle.account.specs.Looks.{Became, Applied, Free, only_item};
 
 use crate::known::Known;
-use crate::spans::{
-    ARRANGEMENT, COLLECTION, DEPOSIT, LAST, LEDGER, RECEIPTS, WORDS, ledger_in, receipts_in,
-};
+use crate::spans::{ARRANGEMENT, LEDGER, RECEIPTS, WORDS, receipts_in};
+use crate::step::set_service;
 use rules::kinds::Kind;
 use rules::refusals::Refusal;
 use rules::{Answer, Event, InRange};
-
-// The day, and the notice, which can only lapse. The arrears are worked out only where there is one. `step::set_service` in its place
-// was tried, with payments stored by `arrangement` as other events are: a book then took 2.0 to 2.1 times as long as the same rules in
-// place, where the bar is 2, and a kept account 5.2, where it is 4.
-fn pass_day(m: &mut [u64; WORDS], e: Event)
-    requires { OfMoneyAlone e }
-    ensures { Became m.new (service_after (state_on m.old) e) }
-{
-    let t = u64::from(e.day);
-    m[LAST] = t;
-    if collection::quiet(&m[COLLECTION..DEPOSIT]) {
-        return;
-    }
-    let due = ledger::arrears(ledger_in(m), t);
-    collection::lapse(&mut m[COLLECTION..DEPOSIT], due);
-}
 
 // ---- payments
 // 19: payments plus deposits moved would pass the limit.
@@ -61,7 +44,7 @@ fn pay(m: &mut [u64; WORDS], posted: InRange) -> u64
     ensures { let e = posted.event in Applied m.old e (view (state_on m.old) e) m.new result }
 {
     take_payment(m, posted);
-    pass_day(m, posted.event);
+    set_service(m, posted.event);
     receipts::count(receipts_in(m), posted.event.option)
 }
 
@@ -110,7 +93,7 @@ fn charge_item(m: &mut [u64; WORDS], e: Event, charge: u64)
     ensures { Applied m.old e (view (state_on m.old) e) m.new 0 }
 {
     ledger::step(&mut m[LEDGER..WORDS], e, Some(charge), 0);
-    pass_day(m, e);
+    set_service(m, e);
 }
 
 pub fn item(m: &mut [u64; WORDS], e: Event) -> Answer

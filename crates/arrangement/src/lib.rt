@@ -13,9 +13,6 @@ use rules::kinds::Kind;
 use rules::limits::{FINAL_DAY, LIMIT, MOST_PARTS, PART_DAYS};
 use span::Part;
 
-// The word of what was paid, which a payment changes by itself.
-const PAID: usize = 3;
-
 // Where there is none, day, parts and debt are 0: these are words of memory, whose layout is fixed, and an arrangement in no parts is in
 // force on no day.
 #[derive(Clone, Copy)]
@@ -111,9 +108,8 @@ impl Part for Arrangement {
 }
 
 // An accepted event, in place, with the arrears and the payment as `after` takes them. That the sums fit is a clause here and there: it
-// follows from the whole history, and not from the step, so that no type could keep it. Of a payment, which is common, one word
-// changes: by `change` a book misses the bar of speed (account/src/ways.rt). Any other kind neither loads nor stores the words.
-// The words are lent as every part's (`span::Part`).
+// follows from the whole history, and not from the step, so that no type could keep it. Any other kind neither loads nor stores the words.
+// They are lent as every part's (`span::Part`).
 pub fn step(w: &mut [u64], posted: InRange, arrears: u64, payment: u64)
     requires size { length w.old ≡ arrangement_size }
     requires fit { ArrangementFit (arrangement_on w.old) }
@@ -121,11 +117,7 @@ pub fn step(w: &mut [u64], posted: InRange, arrears: u64, payment: u64)
     ensures { arrangement_on w.new ≡ arrangement_after (arrangement_on w.old) posted.event arrears payment }
 {
     let e = posted.event;
-    if e.is(Kind::Payment) {
-        w[PAID] += e.amount;
-        return;
-    }
-    if e.is(Kind::ReturnedPayment) || e.is(Kind::Arrangement) {
+    if e.is(Kind::Payment) || e.is(Kind::ReturnedPayment) || e.is(Kind::Arrangement) {
         span::change(w, |a: Arrangement| a.after(posted, arrears, payment));
     }
 }

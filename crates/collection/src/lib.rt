@@ -1,9 +1,9 @@
 // Collection, in its own words of an account's memory: the service, the newest final notice, and the calls that a
 // disconnection may ask for. The words come as the slice that an account lends, with its length as a clause: what changes them can take
-// no array (`span::Part`), and of what asks, `watches` and `quiet` look at one word.
+// no array (`span::Part`), and `watches`, which asks, looks at one word.
 #![tactic(auto)]
 
-ghost use Rattle.std.specs.Prelude.{◌≡◌, ◌+◌, eqb, length};
+ghost use Rattle.std.specs.Prelude.{◌≡◌, ◌+◌, length};
 ghost use Rattle.span.proofs.Law.{whole as all_words};
 ghost use Rattle.rules.specs.History.{within};
 ghost use Rattle.collection.specs.Collection.{service_by, served_after, notice_after, live_by, in_days_by, calls_after, recent_by, called_by, collection_after, watched, concerns, lapsed_by, collection_ok, collection_size, collection_on, collection_words};
@@ -220,18 +220,9 @@ pub fn watches(w: &[u64], e: Event) -> bool
     e.is(Kind::FinalNotice) || w[NOTICE_LIVE] == 1
 }
 
-// Whether there is no notice that an event could make lapse. Not the contrary of `watches`: a mark that is neither 0 nor 1 is no live
-// notice, and is cleared all the same.
-pub fn quiet(w: &[u64]) -> bool
-    requires { length w.now ≡ collection_size }
-    ensures { result ≡ eqb (collection_on w.now).notice.live 0 }
-{
-    w[NOTICE_LIVE] == 0
-}
-
 // An event that is none of collection's can only make a notice lapse: of the words one changes, and only where there is a notice, since
 // most events come by here. `Notice::after` has the same bar, of the events that are collection's.
-pub fn lapse(w: &mut [u64], arrears: u64)
+fn lapse(w: &mut [u64], arrears: u64)
     requires { length w.old ≡ collection_size }
     ensures { collection_on w.new ≡ lapsed_by (collection_on w.old) arrears }
 {

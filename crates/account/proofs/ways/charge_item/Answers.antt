@@ -10,5 +10,5 @@ step-requires-clause-ledger_room c =
 pub returns : goal.returns
 returns c =
     let a = c.args in
-    item_applied a.m.now a.e c.requires.0 c.requires.1 a.charge c.requires.2 c.step.new.w c.pass_day.new.m (search rules)
-    c.step.ensures c.pass_day.ensures
+    item_applied a.m.now a.e c.requires.0 c.requires.1 a.charge c.requires.2 c.step.new.w c.set_service.new.m (search rules)
+    c.step.ensures c.set_service.ensures
