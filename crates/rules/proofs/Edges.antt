@@ -1,6 +1,7 @@
 -- Our own cases: both sides of every bound of the rules. The papers' examples alone pin the rules weakly.
 use Prim.Native.Nat.{ℕ}
 use mathlib.Core.List.{List, [], ◌∷◌, ◌++◌}
+use Rattle.std.specs.Prelude.{Some, None}
 use Rattle.rules.specs.declared.Event.{Event}
 use Rattle.rules.specs.Tariff.{no_line}
 use Rattle.rules.proofs.Events.{
@@ -46,6 +47,10 @@ use Rattle.rules.proofs.Events.{
   unbilled,
   uses,
   prices,
+  finds,
+  finds_some,
+  pays_for,
+  unread,
 }
 use Rattle.rules.proofs.Paper.{b, d}
 
@@ -578,7 +583,64 @@ readings =
     ∷ gives "past the last line: no price" no_line.price 0
     ∷ []
 
+abbrev budgets : List Case
+budgets =
+    finds "class 1: one cent under the basic charge" 1 1_030 None
+    ∷ finds_some "class 1: the basic charge pays for some usage" 1 1_031
+    ∷ finds "class 2: one cent under the basic charge" 2 1_228 None
+    ∷ finds_some "class 2: the basic charge pays for some usage" 2 1_229
+    ∷ finds "class 3: one cent under the basic charge" 3 2_217 None
+    ∷ finds_some "class 3: the basic charge pays for some usage" 3 2_218
+    ∷ pays_for "class 1: the basic charge" 1 1_031 0
+    ∷ pays_for "class 1: one cent under the bill of 1" 1 1_037 0
+    ∷ pays_for "class 1: the bill of 14,999" 1 110_674 14_999
+    ∷ pays_for "class 1: one cent under the bill of 15,000" 1 110_680 14_999
+    ∷ pays_for "class 1: the bill of 15,000" 1 110_681 15_000
+    ∷ pays_for "class 1: one cent under the bill of 15,001" 1 110_687 15_000
+    ∷ pays_for "class 1: the bill of 49,999" 1 366_524 49_999
+    ∷ pays_for "class 1: one cent under the bill of 50,000" 1 366_530 49_999
+    ∷ pays_for "class 1: the bill of 50,000" 1 366_531 50_000
+    ∷ pays_for "class 1: one cent under the bill of 50,001" 1 366_537 50_000
+    ∷ finds "class 1: the bill of 9,999,999" 1 73_101_024 (Some 9_999_999)
+    ∷ finds "class 1: one cent under the bill of the most usage" 1 73_101_030 (Some 9_999_999)
+    ∷ finds "class 1: the bill of the most usage" 1 73_101_031 (Some 10_000_000)
+    ∷ finds "class 1: the largest sum" 1 18_446_744_073_709_551_615 (Some 10_000_000)
+    ∷ pays_for "class 2: the basic charge" 2 1_229 0
+    ∷ pays_for "class 2: one cent under the bill of 1" 2 1_236 0
+    ∷ pays_for "class 2: the bill of 14,999" 2 116_271 14_999
+    ∷ pays_for "class 2: one cent under the bill of 15,000" 2 116_278 14_999
+    ∷ pays_for "class 2: the bill of 15,000" 2 116_279 15_000
+    ∷ pays_for "class 2: one cent under the bill of 15,001" 2 116_286 15_000
+    ∷ pays_for "class 2: the bill of 49,999" 2 384_721 49_999
+    ∷ pays_for "class 2: one cent under the bill of 50,000" 2 384_728 49_999
+    ∷ pays_for "class 2: the bill of 50,000" 2 384_729 50_000
+    ∷ pays_for "class 2: one cent under the bill of 50,001" 2 384_736 50_000
+    ∷ finds "class 2: the bill of 9,999,999" 2 76_701_221 (Some 9_999_999)
+    ∷ finds "class 2: one cent under the bill of the most usage" 2 76_701_228 (Some 9_999_999)
+    ∷ finds "class 2: the bill of the most usage" 2 76_701_229 (Some 10_000_000)
+    ∷ finds "class 2: the largest sum" 2 18_446_744_073_709_551_615 (Some 10_000_000)
+    ∷ pays_for "class 3: the basic charge" 3 2_218 0
+    ∷ pays_for "class 3: one cent under the bill of 1" 3 2_225 0
+    ∷ pays_for "class 3: the bill of 14,999" 3 117_260 14_999
+    ∷ pays_for "class 3: one cent under the bill of 15,000" 3 117_267 14_999
+    ∷ pays_for "class 3: the bill of 15,000" 3 117_268 15_000
+    ∷ pays_for "class 3: one cent under the bill of 15,001" 3 117_273 15_000
+    ∷ pays_for "class 3: the bill of 49,999" 3 343_712 49_999
+    ∷ pays_for "class 3: one cent under the bill of 50,000" 3 343_717 49_999
+    ∷ pays_for "class 3: the bill of 50,000" 3 343_718 50_000
+    ∷ pays_for "class 3: one cent under the bill of 50,001" 3 343_722 50_000
+    ∷ finds "class 3: the bill of 9,999,999" 3 46_810_213 (Some 9_999_999)
+    ∷ finds "class 3: one cent under the bill of the most usage" 3 46_810_217 (Some 9_999_999)
+    ∷ finds "class 3: the bill of the most usage" 3 46_810_218 (Some 10_000_000)
+    ∷ finds "class 3: the largest sum" 3 18_446_744_073_709_551_615 (Some 10_000_000)
+    ∷ pays_for "the most usage: no next bill is asked" 1 73_101_031 10_000_000
+    ∷ unread "class 0, a sum" 0 5_000 23
+    ∷ unread "class 4, a sum" 4 5_000 23
+    ∷ unread "class 255, no sum" 255 0 23
+    ∷ unread "no sum: no number" 1 0 0
+    ∷ []
+
 abbrev pub edges : List Case
 edges =
     readings
-    ++ (days ++ (ranges ++ (charges ++ (receipts ++ (tills ++ (deposits ++ (services ++ (payouts ++ (notices ++ (certificates ++ (arrangements ++ limits)))))))))))
+    ++ (budgets ++ (days ++ (ranges ++ (charges ++ (receipts ++ (tills ++ (deposits ++ (services ++ (payouts ++ (notices ++ (certificates ++ (arrangements ++ limits))))))))))))

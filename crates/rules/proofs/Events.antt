@@ -1,9 +1,9 @@
 -- Events by name, day first, and what a case of the marked list asks of a list of them, or of a reading.
 use Prim.Native.Nat.{ℕ, zero, suc, ◌+◌, ◌-◌}
 use Prim.Native.String.{String}
-use mathlib.Core.Bool.{Bool, true, false, cond, ◌&&◌}
+use mathlib.Core.Bool.{Bool, true, false, cond, ◌&&◌, ◌||◌}
 use mathlib.Core.List.{List, [], ◌∷◌, ◌++◌, map}
-use lib.Dec.{eqb}
+use lib.Dec.{eqb, leb, ltb}
 use lib.ListN.{length, get_or}
 use Rattle.rules.specs.declared.Event.{Event}
 use Rattle.rules.specs.Kinds as kinds
@@ -14,10 +14,13 @@ use Rattle.rules.specs.Money as money
 use Rattle.rules.specs.Notice.{notice_live}
 use Rattle.rules.specs.Medical as medical
 use Rattle.rules.specs.Arrangement.{in_force}
+use Rattle.std.specs.Prelude.{Option, Some, None, is_some, Ok, Err}
 use Rattle.std.specs.Result.{result_unwrap_or}
 use Rattle.rules.specs.Answer.{Answer, number_of, receipt_of}
 use Rattle.rules.specs.Accepted.{accepted, answers_by}
-use Rattle.rules.specs.Tariff.{bill_of, bill_lines}
+use Rattle.rules.specs.Limits.{most_usage}
+use Rattle.rules.specs.Tariff.{is_class, cents_of, bill_of, bill_lines}
+use Rattle.rules.specs.Budget.{Reading, reading_of}
 
 -- ---- events
 abbrev pub event : ℕ → ℕ → ℕ → ℕ → Event
@@ -183,6 +186,34 @@ uses s class usage ns = gives s (cond (same (map (λ l. l.used) (bill_lines clas
 
 abbrev pub prices : String → ℕ → ℕ → List ℕ → Case
 prices s class usage ns = gives s (cond (same (map (λ l. l.price) (bill_lines class usage)) ns) 1 0) 1
+
+-- the usage that a sum pays for, or none, by the definition: it looks from the most usage down, so this is for a usage near that, and for none
+abbrev same_reading : Reading → Option ℕ → Bool
+same_reading (Ok (Some usage)) (Some wanted) = eqb usage wanted
+same_reading (Ok (Some usage)) None = false
+same_reading (Ok None) (Some wanted) = false
+same_reading (Ok None) None = true
+same_reading (Err r) wanted = false
+
+abbrev pub finds : String → ℕ → ℕ → Option ℕ → Case
+finds s class sum wanted = gives s (cond (same_reading (reading_of class sum) wanted) 1 0) 1
+
+-- that there is one
+abbrev pub finds_some : String → ℕ → ℕ → Case
+finds_some s class sum = gives s (cond (is_some (result_unwrap_or (reading_of class sum) None)) 1 0) 1
+
+-- any usage, by two bills: it is paid for, and one kilowatt-hour more is not, or is not allowed. As bills grow, no larger usage is paid for then
+-- (`by_the_next` in tariff/proofs/Paid.antt)
+abbrev pub last_paid : ℕ → ℕ → ℕ → Bool
+last_paid class sum usage =
+    is_class class && leb usage most_usage && leb (cents_of class usage) sum && (eqb usage most_usage || ltb sum (cents_of class (usage + 1)))
+
+abbrev pub pays_for : String → ℕ → ℕ → ℕ → Case
+pays_for s class sum usage = gives s (cond (last_paid class sum usage) 1 0) 1
+
+-- the number that refuses a class and a sum
+abbrev pub unread : String → ℕ → ℕ → ℕ → Case
+unread s class sum n = gives s (number_of (reading_of class sum)) n
 
 -- the names of the cases that do not hold
 abbrev pub wrong : List Case → List String

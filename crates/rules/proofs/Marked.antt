@@ -6,6 +6,7 @@ use Rattle.rules.specs.Medical.{covers}
 use Rattle.rules.specs.Range.{in_range}
 use Rattle.rules.specs.Table.{refusal_by}
 use Rattle.rules.specs.Tariff.{cents_of}
+use Rattle.rules.specs.Budget.{largest_where}
 use Rattle.rules.proofs.Events.{Case, wrong}
 use Rattle.rules.proofs.Paper.{paper}
 use Rattle.rules.proofs.Tickets.{tickets}
@@ -17,5 +18,5 @@ cases = paper ++ (tickets ++ (edges ++ orders))
 
 -- no case is wrong
 pub marked : wrong cases ≡ []
-unfolding within total covers in_range refusal_by cents_of
+unfolding within total covers in_range refusal_by cents_of largest_where
 marked = refl

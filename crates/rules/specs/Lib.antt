@@ -16,3 +16,4 @@ pub mod Answer
 pub mod Accepted
 pub mod Sums
 pub mod Tariff
+pub mod Budget
