@@ -7,7 +7,7 @@ use mathlib.Core.List.{List, [], ◌∷◌}
 use native.Mathlib.Omega.{arith}
 use lib.Dec.{leb, eqb}
 use lib.ListN.{length, get_or}
-use borrow.Author.Tests.{leb-true, eqb-true}
+use borrow.Author.Tests.{leb-true, le-leb, eqb-true}
 use Rattle.std.specs.List.{list_all}
 use Rattle.std.proofs.lemmas.Bool.{and_from}
 use Rattle.basics.proofs.Cases.{Each, links}
@@ -17,9 +17,12 @@ use Rattle.rules.specs.Kinds as kinds
 use Rattle.rules.specs.Limits.{most_amount, most_usage}
 use Rattle.rules.specs.History.{within}
 use Rattle.rules.specs.Range.{in_range}
-use Rattle.rules.specs.Tariff.{basic_charges, schedules, lines_from, energy_by, row_of, basic_of, cents_of, bill_refusal, no_line}
+use Rattle.rules.specs.Tariff.{basic_charges, schedules, lines_from, energy_by, row_of, basic_of, cents_of, is_class, bill_refusal, no_line}
 use Rattle.rules.proofs.Days.{within_in}
 use Rattle.tariff.specs.Allowed.{Allowed}
+use Rattle.tariff.specs.Classes.{class_number}
+use Rattle.tariff.specs.declared.classes.Class.{Class}
+use Rattle.tariff.specs.declared.classes.Class.TheVariants.{Residential, SinglePhase, ThreePhase}
 use Rattle.tariff.proofs.Rows.{lines_length, steep_from, growth, empty_behind, used_in, all_used}
 
 -- what no energy sum passes, in hundredths of a cent, and no basic charge, in cents: far from the end of 64 bits and of a bill's amount
@@ -43,9 +46,18 @@ small basic = leb 1 basic && leb basic most_basic
 charges : list_all small basic_charges ≡ true
 charges = refl
 
+-- ---- a class that is known
+pub class_known : (c : Class) → is_class (class_number c) ≡ true
+class_known Residential = refl
+class_known SinglePhase = refl
+class_known ThreePhase = refl
+
 -- ---- refused or not
 pub allowed : (class usage : ℕ) → bill_refusal class usage ≡ 0 → Allowed class usage
 allowed class usage z = grind (arith, common_steps)
+
+pub allowed_in : (class usage : ℕ) → is_class class ≡ true → usage ≤ most_usage → Allowed class usage
+allowed_in class usage k m = allowed class usage (rw (k, le-leb usage most_usage m) refl)
 
 -- ---- for a class and a usage
 module _ (class usage : ℕ) (a : Allowed class usage) where
@@ -80,6 +92,11 @@ module _ (class usage : ℕ) (a : Allowed class usage) where
   pub grows : (less : ℕ) → less < usage → cents_of class less < cents_of class usage
   unfolding cents_of
   grows less l = omega (arith, growth less usage (omega arith) a.usage_in_range 0 (row_of class) row_facts.0)
+
+  -- and never falls
+  pub rises : (less : ℕ) → less ≤ usage → cents_of class less ≤ cents_of class usage
+  unfolding cents_of
+  rises less l = omega (arith, growth less usage l a.usage_in_range 0 (row_of class) row_facts.0)
 
   pub three_lines : length (lines_from 0 (row_of class) usage) ≡ 3
   three_lines = lines_length 0 (row_of class) usage ∙ eqb-true (length (row_of class)) 3 row_facts.1.1.0

@@ -1,2 +1,4 @@
 pub mod Rows
 pub mod Law
+pub mod Paid
+pub mod Halving

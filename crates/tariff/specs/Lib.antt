@@ -1,3 +1,4 @@
 pub mod Allowed
 pub mod Blocks
 pub mod Classes
+pub mod Largest

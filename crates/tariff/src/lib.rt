@@ -1,8 +1,9 @@
 // Bills from the reading: the amount for a bill, worked out from a class and its kilowatt-hours, and the lines that it is made of. Each
 // class has its schedule, a basic charge and a row of blocks; source document 002 has the prices. The account knows nothing of them:
-// what is worked out here is posted as any bill is.
+// what is worked out here is posted as any bill is. budget.rt asks the other way round: how much usage a sum pays for.
 #![tactic(auto)]
 
+mod budget;
 mod classes;
 
 ghost use Rattle.std.specs.Prelude.{◌≡◌, ◌≤◌, ◌<◌, get_or, IfOk, IfErr};
@@ -13,6 +14,7 @@ ghost use Rattle.rules.specs.Tariff.{lines_from, energy_by, row_of, basic_of, ce
 ghost use Rattle.tariff.specs.Blocks.{start_of};
 ghost use Rattle.tariff.specs.Classes.{class_number};
 
+pub use budget::{Reading, reading_for};
 use classes::Class;
 use rules::limits::MOST_USAGE;
 use rules::refusals::Refusal;
