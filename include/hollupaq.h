@@ -1,7 +1,8 @@
 /*
  * Hollupaq: the standing of utility accounts, from a book file in memory, or of
  * an account that the caller keeps and posts to, one event at a time; and book
- * files made of account lists, and read back; and the bill of a meter reading.
+ * files made of account lists, and read back; and the bill of a meter reading,
+ * and the reading that a sum pays for.
  *
  * The functions are those of the proved core in libhollupaq.a. Only pointers
  * with lengths, and numbers, cross the boundary. The functions keep no state
@@ -36,24 +37,28 @@ extern "C" {
 #endif
 
 /*
- * The version of this header, major * 10000 + minor * 100 + patch: 1.2.0. The
+ * The version of this header, major * 10000 + minor * 100 + patch: 1.3.0. The
  * library's own is told by hollupaq_version; where they differ, the header is
  * not of this library.
  */
-#define HOLLUPAQ_VERSION 10200
+#define HOLLUPAQ_VERSION 10300
 
 uint64_t hollupaq_version(void);
 
 /* Bytes of stack that are enough for any call. */
 #define HOLLUPAQ_STACK 16384
 
-/* An answer from here on is an acceptance; one below it a refusal. */
+/*
+ * An answer from here on is an acceptance, or tells a value; one below it is a
+ * refusal, or HOLLUPAQ_TOO_LITTLE of hollupaq_reading.
+ */
 #define HOLLUPAQ_ACCEPTED 256
 
 /*
  * The numbers of the refusals. The rules are asked in the order of their
  * numbers, and the first that refuses an event gives the answer. Where a
- * function says that it returns 0 when it is done, 0 is no refusal.
+ * function says that it returns 0 when it is done, 0 is no refusal, nor is it
+ * where hollupaq_reading tells that a sum is too little.
  */
 enum {
     HOLLUPAQ_REFUSED_NO_ACCOUNT = 0,    /* the memory is no account */
@@ -372,7 +377,26 @@ uint64_t hollupaq_bill(uint8_t rate_class, uint64_t usage);
 uint64_t hollupaq_bill_used(uint8_t rate_class, uint64_t usage, size_t i);
 uint64_t hollupaq_bill_price(uint8_t rate_class, uint64_t usage, size_t i);
 
-/* What an answer tells, the cents of a bill too; 0 where it is a refusal. */
+/* The answer of hollupaq_reading where a sum pays for nothing. */
+#define HOLLUPAQ_TOO_LITTLE 0
+
+/*
+ * The reading for a budget: the largest usage, 0 to 10,000,000 kilowatt-hours,
+ * whose bill is at most a sum, in cents. Every larger usage costs more than the
+ * sum, which may be any number.
+ *
+ * Returns HOLLUPAQ_ACCEPTED and the usage added to it; HOLLUPAQ_TOO_LITTLE (0)
+ * where the sum is under the basic charge, which is the bill of usage 0; or
+ * HOLLUPAQ_REFUSED_READING (23) for a class that is not 1 to 3.
+ * hollupaq_accepted says whether there is a usage, and hollupaq_told which one:
+ * ask the first as well, since usage 0 is told as 0 too.
+ */
+uint64_t hollupaq_reading(uint8_t rate_class, uint64_t sum);
+
+/*
+ * What an answer tells, the cents of a bill and the usage of a reading too; 0
+ * where it is a refusal or HOLLUPAQ_TOO_LITTLE.
+ */
 static inline uint64_t hollupaq_told(uint64_t answer)
 {
     return answer >= HOLLUPAQ_ACCEPTED ? answer - HOLLUPAQ_ACCEPTED : 0;

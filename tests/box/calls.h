@@ -52,7 +52,8 @@
     CALL(3, uint64_t, hollupaq_bill_used, (NUMBER, uint8_t, rate_class), (NUMBER, uint64_t, usage), \
          (NUMBER, size_t, i)) \
     CALL(3, uint64_t, hollupaq_bill_price, (NUMBER, uint8_t, rate_class), (NUMBER, uint64_t, usage), \
-         (NUMBER, size_t, i))
+         (NUMBER, size_t, i)) \
+    CALL(2, uint64_t, hollupaq_reading, (NUMBER, uint8_t, rate_class), (NUMBER, uint64_t, sum))
 
 /* The most parameters of a function, and `each` of them with its place. */
 #define MOST 6

@@ -47,6 +47,8 @@ static uint64_t account[HOLLUPAQ_WORDS], kept[KEPT * HOLLUPAQ_WORDS];
 static size_t at;      /* an account, an open item, or a line of a bill */
 static size_t record;  /* the event that is posted */
 static uint64_t usage; /* of a reading */
+static uint64_t sum;   /* for which a usage is wanted, in cents */
+static uint8_t rate;   /* the class of the customer who names it */
 static uint64_t answer;
 
 #define OF_BOOK book, book_len
@@ -90,7 +92,8 @@ static uint64_t answer;
     F(certified, hollupaq_certified(OF_ACCOUNT, days[record])) \
     F(bill, hollupaq_bill(3, usage)) \
     F(bill_used, hollupaq_bill_used(3, usage, at)) \
-    F(bill_price, hollupaq_bill_price(3, usage, at))
+    F(bill_price, hollupaq_bill_price(3, usage, at)) \
+    F(reading, hollupaq_reading(rate, sum))
 
 #define CALL(name, call) \
     static void call_##name(void) { answer = (uint64_t)(call); }
@@ -220,6 +223,19 @@ static void look_at_bills(void)
     }
 }
 
+/* Sums that pay for nothing, some usage and the largest, in each class. */
+static void look_at_readings(void)
+{
+    static const uint64_t sums[] = {0, 1030, 1031, 8341, 390418, UINT64_MAX};
+    size_t i;
+
+    for (i = 0; i < sizeof sums / sizeof sums[0]; i++) {
+        sum = sums[i];
+        for (rate = 0; rate < 5; rate++)
+            measure(THE_reading);
+    }
+}
+
 /* A book of 65,536 bytes: all kinds but the last in turn, a day for each. */
 static void make_book(size_t accounts)
 {
@@ -296,6 +312,7 @@ int main(int argc, char **argv)
     measure(THE_version);
     measure(THE_words);
     look_at_bills();
+    look_at_readings();
     make_book(1);
     look_at_book();
     make_book(1023);

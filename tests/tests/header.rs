@@ -152,6 +152,21 @@ fn a_name_says_why_there_is_no_bill() {
     assert_eq!(bills::bill(1, 10_000_000), Ok(73_101_031));
 }
 
+#[test]
+fn a_name_says_why_a_sum_is_told_no_usage() {
+    let refused = Err(number("REFUSED_READING") as u8);
+    for sum in [0, 1_031, u64::MAX] {
+        assert_eq!(bills::reading(0, sum), refused, "{sum}");
+        assert_eq!(bills::reading(4, sum), refused, "{sum}");
+    }
+    assert_eq!(bills::TOO_LITTLE, defined("HOLLUPAQ_TOO_LITTLE"));
+    assert_eq!(bills::reading(1, 1_030), Ok(None));
+    assert_eq!(bills::reading(1, 1_031), Ok(Some(0)));
+    for sum in [1 << 32, u64::MAX] {
+        assert_eq!(bills::reading(1, sum), Ok(Some(10_000_000)), "{sum}");
+    }
+}
+
 /// The names are those of the words that a text has for the kinds.
 #[test]
 fn kinds_have_their_words_and_numbers() {

@@ -8,13 +8,14 @@ use lib.Dec.{leb, eqb}
 use lib.ListN.{length}
 use Rattle.basics.proofs.Cases.{on, on_eq}
 use Rattle.rules.specs.Limits.{limit, most_amount, most_usage}
-use Rattle.std.proofs.Common.{◌<◌, ◌&&◌, Result, Ok, Err}
+use Rattle.std.proofs.Common.{◌<◌, ◌&&◌, Some, Result, Ok, Err}
 use Rattle.rules.specs.declared.refusals.Refusal.{Refusal}
 use Rattle.rules.specs.Refusals.{refusals}
 use Rattle.rules.specs.Answer.{Answer, answered, receipt_of}
 use Rattle.std.specs.Result.{MatchResult, IsOkAnd}
 use Rattle.rules.proofs.Numbered.{number_kept, answered_err}
 use Rattle.rules.specs.Tariff.{is_class, cents_of, bill_refusal, bill_of}
+use Rattle.rules.specs.Budget.{Reading}
 use Rattle.tariff.proofs.Law.{allowed, bill_in_range}
 use Rattle.bookformat.specs.Book.{size, book_refusal}
 use Rattle.bookformat.specs.Lent.{Columns, write_refusal, WroteBook}
@@ -22,7 +23,7 @@ use Rattle.book.specs.declared.Book.{Book}
 use Rattle.bookformat.proofs.Told.{write_facts, book_in_table, write_in_table}
 use Rattle.bookformat.proofs.Forth.{length_written}
 use Rattle.questions.specs.Questions.{Tells, Says}
-use Rattle.hollupaq.specs.Library.{told, told_yes, answer_word, amount_word, truth_word}
+use Rattle.hollupaq.specs.Library.{told, told_yes, answer_word, amount_word, truth_word, reading_word}
 use Rattle.hollupaq.specs.Books.{Stored}
 
 told_number : (n v : ℕ) → (n ≡ 0 → ⊥) → n ≡ told n v
@@ -69,6 +70,10 @@ bill_word class usage =
     told_answered (bill_refusal class usage) (cents_of class usage)
     (on (is_class class && leb usage most_usage) (λ q. rw q (omega arith)) (λ q. rw q (omega arith)))
     (λ z. (bill_in_range class usage (allowed class usage z)).1)
+
+-- ---- a reading for a budget: its usage is far from wrapping
+pub reading_told : (usage w : ℕ) (r : Reading) → usage ≤ most_usage → Ok (Some usage) ≡ r → w ≡ amount_word (Ok usage) → w ≡ reading_word r
+reading_told usage w r m e a = rw (sym e) (omega (arith, a))
 
 -- ---- a book that passed, and what is told of it
 small_word : (n x w : ℕ) (m : Result ℕ Refusal) → m ≡ answered n x → n < length refusals → (n ≡ 0 → x ≤ most_amount) → w ≡ amount_word m → w ≡ told n x

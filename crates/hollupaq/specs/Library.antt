@@ -1,10 +1,11 @@
 -- The answers of the static library: plain numbers, since an enum has no form in C; and demand 3 of an account that a program keeps.
-use Rattle.std.specs.Prelude.{ℕ, zero, suc, ◌+◌, min, ◌≡◌, Bool, true, false, cond, List, map, eqb, length, Result, Ok, Err}
+use Rattle.std.specs.Prelude.{ℕ, zero, suc, ◌+◌, min, ◌≡◌, Bool, true, false, cond, List, map, eqb, length, Some, None, Result, Ok, Err}
 use Rattle.basics.specs.Machine.{largest}
 use Rattle.rules.specs.declared.Event.{Event}
 use Rattle.rules.specs.declared.refusals.Refusal.{Refusal}
 use Rattle.rules.specs.Refusals.{refusal_number}
 use Rattle.rules.specs.Answer.{Answer}
+use Rattle.rules.specs.Budget.{Reading}
 use Rattle.rules.specs.Money.{arrears}
 use Rattle.rules.specs.Notice.{notice_live}
 use Rattle.rules.specs.Medical.{certified}
@@ -18,9 +19,9 @@ use Rattle.claim.specs.Run.{LeftBy}
 use Rattle.claim.specs.Claim.{ClaimOf}
 use Rattle.report.specs.Report.{print_length, printed_in}
 
--- version 1.2.0: ten thousands, hundreds and ones
+-- version 1.3.0: ten thousands, hundreds and ones
 abbrev pub library_version : ℕ
-library_version = 10200
+library_version = 10300
 
 -- under 256 the number that refuses; where none does, 256 and the value asked for
 abbrev pub told : ℕ → ℕ → ℕ
@@ -66,6 +67,12 @@ abbrev pub truth_word : Result Bool Refusal → ℕ
 truth_word (Ok true) = 257
 truth_word (Ok false) = 256
 truth_word (Err r) = refusal_number r
+
+-- a reading for a budget: 256 and the usage, 0 for none; else below 256 the number that refuses
+abbrev pub reading_word : Reading → ℕ
+reading_word (Ok (Some usage)) = 256 + usage
+reading_word (Ok None) = 0
+reading_word (Err r) = refusal_number r
 
 -- DEMAND 3 of z, the memory after the list es: what was answered are the answers of the events alone, and the claim holds
 pub record KeptClaimOf (z : List ℕ) (said : List ℕ) (es : List Event) : Type 0 where
