@@ -6,12 +6,23 @@ use crate::words::{self, money};
 
 /// The bill of a class and a usage, or why there is none.
 pub fn tell(class: u64, usage: u64) -> String {
+    let table = |class| told(class, usage);
+    of_class(class, &format!("{usage} kWh"), table, words::meaning)
+}
+
+/// What is told of a class under its heading, or why it is refused: the meaning of the number.
+pub fn of_class(
+    class: u64,
+    what: &str,
+    told: impl Fn(u8) -> Result<String, u8>,
+    meaning: fn(u8) -> &'static str,
+) -> String {
     // The core takes classes up to 255, and refuses that one as it would any larger.
     let asked = u8::try_from(class).unwrap_or(u8::MAX);
     let whose = words::class(asked).map_or(String::new(), |words| format!(" ({words})"));
-    let told = told(asked, usage)
-        .unwrap_or_else(|number| format!("refused {number}: {}\n", words::meaning(number)));
-    format!("Class {class}{whose}, {usage} kWh. Sums are in dollars.\n\n{told}")
+    let told =
+        told(asked).unwrap_or_else(|number| format!("refused {number}: {}\n", meaning(number)));
+    format!("Class {class}{whose}, {what}. Sums are in dollars.\n\n{told}")
 }
 
 /// The table of a bill, or the number that refuses the class or the usage.

@@ -9,6 +9,7 @@ pub mod event;
 pub mod hints;
 pub mod history;
 pub mod kinds;
+pub mod reading;
 pub mod service;
 pub mod shown;
 pub mod story;

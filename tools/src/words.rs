@@ -68,6 +68,14 @@ pub fn reason(number: u8, kind: u8) -> &'static str {
     }
 }
 
+/// Why a sum is told no usage: the part of the meaning that concerns it, since no usage is given that could be too large.
+pub fn no_reading(number: u8) -> &'static str {
+    match number {
+        23 => "the class is not 1 to 3",
+        _ => meaning(number),
+    }
+}
+
 /// What a kind adds to what is owed, beyond the sum that the event itself speaks of.
 pub fn added(kind: u8) -> &'static str {
     match kind {

@@ -5,7 +5,7 @@ use run::{complaint, folder, pack, printed, run, run_words, TEXT};
 use std::fs;
 use tools::core;
 
-const COMMANDS: [&str; 5] = ["why", "bill", "pack", "unpack", "standing"];
+const COMMANDS: [&str; 6] = ["why", "bill", "reading", "pack", "unpack", "standing"];
 
 #[test]
 fn help_is_printed_where_it_is_asked_for() {
@@ -52,9 +52,9 @@ fn each_command_has_a_help_of_its_own() {
 
 #[test]
 fn the_version_is_the_library_s() {
-    assert_eq!(core::version(), 10_200);
+    assert_eq!(core::version(), 10_300);
     for words in ["--version", "-V"] {
-        assert_eq!(printed(run(words, b"")), "hollupaq 1.2.0\n");
+        assert_eq!(printed(run(words, b"")), "hollupaq 1.3.0\n");
     }
 }
 
@@ -65,7 +65,7 @@ fn without_arguments_the_help_is_a_complaint() {
 }
 
 /// The usage of each command, and of the command without one.
-const USAGES: [(&str, &str); 6] = [
+const USAGES: [(&str, &str); 7] = [
     (
         "hollupaq",
         "hollupaq COMMAND ..   (`hollupaq help` lists the commands)",
@@ -75,6 +75,7 @@ const USAGES: [(&str, &str); 6] = [
         "hollupaq why BOOK [N] [--on DAY | --try 'DAY EVENT ..' | --csv]",
     ),
     ("hollupaq bill", "hollupaq bill CLASS USAGE"),
+    ("hollupaq reading", "hollupaq reading CLASS CENTS"),
     ("hollupaq pack", "hollupaq pack TEXT [BOOK]"),
     ("hollupaq unpack", "hollupaq unpack BOOK [TEXT]"),
     ("hollupaq standing", "hollupaq standing BOOK"),
@@ -101,6 +102,13 @@ bill 1 2 3 => hollupaq bill: `3` is one word too many
 bill home 5 => hollupaq bill: CLASS is the number of a class, 0 or more, and not `home`
 bill 1 60,000 => hollupaq bill: USAGE is a number of kilowatt-hours, 0 or more, and not `60,000`
 bill 1 18446744073709551616 => hollupaq bill: USAGE is a number of kilowatt-hours, 0 or more, and not `18446744073709551616`
+reading => hollupaq reading: CLASS is missing
+reading 1 => hollupaq reading: CENTS is missing
+reading 1 2 3 => hollupaq reading: `3` is one word too many
+reading home 5 => hollupaq reading: CLASS is the number of a class, 0 or more, and not `home`
+reading 1 100.00 => hollupaq reading: CENTS is a whole number of cents (10000 is 100.00 dollars), 0 or more, and not `100.00`
+reading 1 10,000 => hollupaq reading: CENTS is a whole number of cents (10000 is 100.00 dollars), 0 or more, and not `10,000`
+reading 1 18446744073709551616 => hollupaq reading: CENTS is a whole number of cents (10000 is 100.00 dollars), 0 or more, and not `18446744073709551616`
 pack => hollupaq pack: TEXT is missing
 pack a b c => hollupaq pack: `c` is one word too many
 unpack => hollupaq unpack: BOOK is missing
@@ -141,6 +149,26 @@ fn a_bill_is_worked_out_and_a_reading_refused() {
     for words in ["bill 4 0", "bill 257 1000", "bill 1 10000001"] {
         let told = printed(run(words, b""));
         assert!(told.contains("\n\nrefused 23: the class "), "{told}");
+    }
+}
+
+#[test]
+fn a_sum_is_told_the_usage_that_it_pays_for() {
+    let told = printed(run("reading 1 8000", b""));
+    assert_eq!(told, tools::reading::tell(1, 8_000));
+    // The usage that is told has a bill of at most the sum, and one more has not.
+    let rows = "\npays for  953  79.97\none more  954  80.05\n";
+    assert!(told.contains(rows), "{told}");
+    let bill = printed(run("bill 1 953", b""));
+    assert!(bill.ends_with(": DAY bill 7997\n"), "{bill}");
+    let bill = printed(run("bill 1 954", b""));
+    assert!(bill.ends_with(": DAY bill 8005\n"), "{bill}");
+    for words in ["reading 0 5000", "reading 4 0", "reading 257 5000"] {
+        let told = printed(run(words, b""));
+        assert!(
+            told.ends_with("\n\nrefused 23: the class is not 1 to 3\n"),
+            "{told}"
+        );
     }
 }
 

@@ -2,7 +2,7 @@
 mod common;
 
 use common::last_answer;
-use tools::core::bills::bill;
+use tools::core::bills::{bill, reading};
 use tools::core::Answer;
 use tools::dates::{date, LAST_DAY};
 use tools::event::Event;
@@ -134,7 +134,11 @@ fn the_classes_and_the_most_usage_are_the_core_s() {
         assert_eq!(bill(class, most).err(), expected, "class {class}");
         assert_eq!(words::class(class).is_some(), known, "class {class}");
         assert_eq!(bill(class, most + 1), Err(23), "class {class}");
+        assert_eq!(reading(class, 0).err(), expected, "class {class}");
     }
+    // Of a sum the first half of the words is said.
+    assert!(meaning(23).starts_with(words::no_reading(23)));
+    assert_eq!(words::no_reading(22), meaning(22));
 }
 
 #[test]

@@ -14,7 +14,8 @@ CLASS is 1 (residential), 2 (single phase) or 3 (three phase), and USAGE a numbe
 kilowatt-hours, up to 10000000. The basic charge and a line for each block of the
 schedule that the usage reaches stand above the bill, which is rounded once, half a
 cent up. The amount is not posted: it goes into the text of a book (see
-hollupaq pack --help), or is tried (hollupaq why BOOK --try 'DAY bill CENTS').",
+hollupaq pack --help), or is tried (hollupaq why BOOK --try 'DAY bill CENTS'). The other
+way round, hollupaq reading tells the usage that a sum pays for.",
     run,
 };
 

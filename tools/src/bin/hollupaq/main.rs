@@ -6,6 +6,7 @@ mod command;
 mod files;
 mod help;
 mod pack;
+mod reading;
 mod standard;
 mod standing;
 mod unpack;
@@ -18,9 +19,10 @@ use std::process::ExitCode;
 use tools::shown::shown;
 
 /// Every command: one entry here, and a file of its own beside this one.
-const COMMANDS: [Command; 5] = [
+const COMMANDS: [Command; 6] = [
     why::COMMAND,
     bill::COMMAND,
+    reading::COMMAND,
     pack::COMMAND,
     unpack::COMMAND,
     standing::COMMAND,
