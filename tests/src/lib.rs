@@ -2,6 +2,7 @@
 //! needed to lay a difference open.
 
 pub mod books;
+pub mod budgets;
 pub mod coverage;
 pub mod damage;
 pub mod edges;
@@ -18,6 +19,7 @@ pub mod seeds;
 pub mod show;
 pub mod shrink;
 pub mod tally;
+pub mod usages;
 
 #[cfg(test)]
 mod tests {

@@ -3,26 +3,11 @@ use crate::peer::tariff::{self, Reading, CLASSES, LARGEST_USAGE};
 use crate::random::Random;
 use crate::seeds::Share;
 use crate::tally::{Group, Tally};
-use std::collections::BTreeSet;
+use crate::usages::{self, Reached, BOUNDS, NO_CLASS};
+use std::fmt::Debug;
 use tools::core::bills::{self, Line};
 use tools::core::{Account, Answer};
 use tools::event::Event;
-
-/// The usages at the ends of the blocks and of the range, on both sides.
-const BOUNDS: [u64; 8] = [
-    0,
-    14_999,
-    15_000,
-    15_001,
-    49_999,
-    50_000,
-    50_001,
-    LARGEST_USAGE,
-];
-
-/// How far apart the usages are whose lines are looked at and whose bills are posted; in a part of a run, all that are tried.
-const APART: u64 = 997;
-const APART_IN_PART: u64 = 99_991;
 
 /// Beside the last line of a bill.
 const MORE_LINES: [usize; 3] = [3, 4, usize::MAX];
@@ -48,7 +33,7 @@ pub struct Readings {
     lines: Group,
     posted: Group,
     refused: Group,
-    reached: BTreeSet<String>,
+    reached: Reached,
 }
 
 impl Readings {
@@ -75,7 +60,7 @@ impl Readings {
     /// Every usage, in its order, so that the first difference is the smallest.
     fn class(&mut self, class: u8, part: bool) {
         for reading in tariff::readings(class) {
-            let close = BOUNDS.contains(&reading.usage) || is_apart(reading.usage, part);
+            let close = usages::is_close(reading.usage, part);
             if close || !part {
                 self.bills.try_one(|| bill(class, &reading));
             }
@@ -90,11 +75,11 @@ impl Readings {
         self.lines.try_one(|| lines(class, reading));
         self.posted.try_one(|| posted(class, reading));
         if BOUNDS.contains(&reading.usage) {
-            self.reach(class, &format!("{} kWh", reading.usage));
+            self.reached.add(class, &format!("{} kWh", reading.usage));
         }
         match reading.energy % 100 {
-            49 => self.reach(class, "49 hundredths down"),
-            50 => self.reach(class, "half a cent up"),
+            49 => self.reached.add(class, "49 hundredths down"),
+            50 => self.reached.add(class, "half a cent up"),
             _ => {}
         }
     }
@@ -107,15 +92,11 @@ impl Readings {
         self.refused.try_one(|| refused(class, usage, number));
         let known = CLASSES.contains(&class);
         if known && usage == LARGEST_USAGE + 1 {
-            self.reach(class, "one kWh too many");
+            self.reached.add(class, "one kWh too many");
         }
-        if !known && usage <= LARGEST_USAGE && (class == 0 || class == 4) {
-            self.reach(class, "no such class");
+        if !known && usage <= LARGEST_USAGE {
+            self.reached.add(class, NO_CLASS);
         }
-    }
-
-    fn reach(&mut self, class: u8, what: &str) {
-        self.reached.insert(reached(class, what));
     }
 
     pub fn tell(&self, tally: &mut Tally) {
@@ -127,37 +108,15 @@ impl Readings {
     }
 
     fn missing(&self) -> Vec<String> {
-        let mut wanted: Vec<String> = [0, 4].map(|class| reached(class, "no such class")).into();
-        for class in CLASSES {
-            let bounds = BOUNDS.map(|usage| format!("{usage} kWh"));
-            wanted.extend(bounds.iter().map(|bound| reached(class, bound)));
-            let others = ["49 hundredths down", "half a cent up", "one kWh too many"];
-            wanted.extend(others.map(|other| reached(class, other)));
-        }
-        wanted.retain(|name| !self.reached.contains(name));
-        wanted
+        let mut wanted: Vec<String> = BOUNDS.map(|usage| format!("{usage} kWh")).into();
+        let others = ["49 hundredths down", "half a cent up", "one kWh too many"];
+        wanted.extend(others.map(String::from));
+        self.reached.missing(&wanted)
     }
 }
 
-fn reached(class: u8, what: &str) -> String {
-    format!("  class {class}: {what}")
-}
-
-fn is_apart(usage: u64, part: bool) -> bool {
-    usage.is_multiple_of(if part { APART_IN_PART } else { APART })
-}
-
-/// A difference in what is expected of a reading, in words.
-fn differs<T: PartialEq + std::fmt::Debug>(
-    class: u8,
-    usage: u64,
-    expected: T,
-    found: T,
-) -> Option<String> {
-    let words = || {
-        format!("  class {class}, {usage} kWh\n    expected: {expected:?}\n    found: {found:?}\n")
-    };
-    (expected != found).then(words)
+fn differs<T: PartialEq + Debug>(class: u8, usage: u64, expected: T, found: T) -> Option<String> {
+    usages::differs(class, format_args!("{usage} kWh"), expected, found)
 }
 
 fn bill(class: u8, reading: &Reading) -> Option<String> {
@@ -235,11 +194,5 @@ mod tests {
         some.odd(2, LARGEST_USAGE + 1);
         some.odd(3, 0);
         assert_eq!(some.missing().len(), none.missing().len() - 3);
-    }
-
-    #[test]
-    fn a_part_of_a_run_has_fewer() {
-        let tried = |part| (0..=LARGEST_USAGE).filter(|&u| is_apart(u, part)).count();
-        assert_eq!((tried(false), tried(true)), (10_031, 101));
     }
 }

@@ -9,6 +9,7 @@ use std::env;
 use std::path::{Path, PathBuf};
 use std::process::ExitCode;
 use tests::books::{self, Book};
+use tests::budgets::Budgets;
 use tests::coverage::Coverage;
 use tests::damage;
 use tests::kept;
@@ -54,6 +55,7 @@ fn main() -> ExitCode {
         "short books and books of many accounts by the library",
     );
     Readings::compared(&shares, wanted.part).tell(&mut tally);
+    Budgets::compared(&shares, wanted.part).tell(&mut tally);
     by_program(&wanted.program, &shares, &mut tally);
     if tally.finish() {
         ExitCode::SUCCESS

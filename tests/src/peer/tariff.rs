@@ -1,4 +1,4 @@
-//! The bill of a reading, kilowatt-hour by kilowatt-hour.
+//! The bill of a reading, kilowatt-hour by kilowatt-hour; and the reading that a sum pays for, bill by bill.
 
 /// The largest usage that a bill is worked out for.
 pub const LARGEST_USAGE: u64 = 10_000_000;
@@ -92,6 +92,18 @@ pub fn bill(class: u8, usage: u64) -> Result<u64, u8> {
     }
 }
 
+/// The largest usage whose bill is at most a sum, none where no bill is; or the number that turns the class away. All bills are
+/// looked at, as if one could be less than the bill before it.
+pub fn reading_for(class: u8, sum: u64) -> Result<Option<u64>, u8> {
+    match refusal(class, 0) {
+        Some(number) => Err(number),
+        None => {
+            let paid = readings(class).filter(|reading| reading.bill <= sum);
+            Ok(paid.last().map(|reading| reading.usage))
+        }
+    }
+}
+
 #[cfg(test)]
 mod tests {
     use super::*;
@@ -112,6 +124,40 @@ mod tests {
             assert!(bill(class, LARGEST_USAGE).is_ok());
             assert_eq!(bill(class, LARGEST_USAGE + 1), Err(23));
             assert_eq!(bill(class, u64::MAX), Err(23));
+        }
+    }
+
+    /// The same examples, turned round.
+    #[test]
+    fn a_sum_pays_for_the_largest_usage_whose_bill_it_covers() {
+        for (class, sum, usage) in [(1, 8_341, 1_000), (3, 390_418, 60_000)] {
+            assert_eq!(reading_for(class, sum), Ok(Some(usage)));
+            assert_eq!(reading_for(class, sum - 1), Ok(Some(usage - 1)));
+        }
+        for class in CLASSES {
+            assert_eq!(reading_for(class, basic(class) - 1), Ok(None));
+            assert_eq!(reading_for(class, basic(class)), Ok(Some(0)));
+            assert_eq!(reading_for(class, u64::MAX), Ok(Some(LARGEST_USAGE)));
+        }
+    }
+
+    #[test]
+    fn a_sum_pays_for_nothing_in_a_class_that_is_not_there() {
+        for class in [0, 4, 255] {
+            for sum in [0, 1_031, u64::MAX] {
+                assert_eq!(reading_for(class, sum), Err(23));
+            }
+        }
+    }
+
+    /// So a sum from one bill on and under the next pays for the first of the two and for no other, which budgets.rs rests on.
+    #[test]
+    fn each_kilowatt_hour_costs_more() {
+        for class in CLASSES {
+            let next = readings(class).skip(1);
+            assert!(readings(class)
+                .zip(next)
+                .all(|(one, next)| one.bill < next.bill));
         }
     }
 
