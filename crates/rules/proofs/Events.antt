@@ -1,10 +1,12 @@
 -- Events by name, day first, and what a case of the marked list asks of a list of them, or of a reading.
 use Prim.Native.Nat.{ℕ, zero, suc, ◌+◌, ◌-◌}
 use Prim.Native.String.{String}
-use mathlib.Core.Bool.{Bool, true, false, cond, ◌&&◌, ◌||◌}
+use mathlib.Core.Path.{◌≡◌, refl, sym, ap}
+use mathlib.Core.Bool.{Bool, true, false, cond, ◌&&◌, ◌||◌, true≢false}
 use mathlib.Core.List.{List, [], ◌∷◌, ◌++◌, map}
 use lib.Dec.{eqb, leb, ltb}
 use lib.ListN.{length, get_or}
+use borrow.Author.Tests.{eqb-true}
 use Rattle.rules.specs.declared.Event.{Event}
 use Rattle.rules.specs.Kinds as kinds
 use Rattle.rules.specs.Deposit as deposit
@@ -194,6 +196,14 @@ same_reading (Ok (Some usage)) None = false
 same_reading (Ok None) (Some wanted) = false
 same_reading (Ok None) None = true
 same_reading (Err r) wanted = false
+
+-- what passes is that reading
+pub same_is : (r : Reading) (wanted : Option ℕ) → same_reading r wanted ≡ true → r ≡ Ok wanted
+same_is (Ok (Some usage)) (Some wanted) e = ap (λ n. Ok (Some n)) (eqb-true usage wanted e)
+same_is (Ok (Some usage)) None e = absurd (true≢false (sym e))
+same_is (Ok None) (Some wanted) e = absurd (true≢false (sym e))
+same_is (Ok None) None e = refl
+same_is (Err r) wanted e = absurd (true≢false (sym e))
 
 abbrev pub finds : String → ℕ → ℕ → Option ℕ → Case
 finds s class sum wanted = gives s (cond (same_reading (reading_of class sum) wanted) 1 0) 1
