@@ -189,7 +189,7 @@ uses s class usage ns = gives s (cond (same (map (λ l. l.used) (bill_lines clas
 abbrev pub prices : String → ℕ → ℕ → List ℕ → Case
 prices s class usage ns = gives s (cond (same (map (λ l. l.price) (bill_lines class usage)) ns) 1 0) 1
 
--- the usage that a sum pays for, or none, by the definition: it looks from the most usage down, so this is for a usage near that, and for none
+-- a usage that is told, or none, is the one that is wanted
 abbrev same_reading : Reading → Option ℕ → Bool
 same_reading (Ok (Some usage)) (Some wanted) = eqb usage wanted
 same_reading (Ok (Some usage)) None = false
@@ -205,6 +205,7 @@ same_is (Ok None) (Some wanted) e = absurd (true≢false (sym e))
 same_is (Ok None) None e = refl
 same_is (Err r) wanted e = absurd (true≢false (sym e))
 
+-- the usage that a sum pays for, or none, by the definition: it looks from the most usage down, so this is for a usage near that, and for none
 abbrev pub finds : String → ℕ → ℕ → Option ℕ → Case
 finds s class sum wanted = gives s (cond (same_reading (reading_of class sum) wanted) 1 0) 1
 

@@ -42,6 +42,11 @@ impl Given {
         })
     }
 
+    /// The number of a class at a place.
+    pub fn class(&self, at: usize) -> Result<u64, String> {
+        self.number(at, "CLASS is the number of a class")
+    }
+
     /// A file, standard input or output where none is named.
     pub fn file(&self, at: usize) -> &OsStr {
         self.name(at).unwrap_or(OsStr::new("-"))

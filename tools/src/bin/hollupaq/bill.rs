@@ -20,7 +20,7 @@ way round, hollupaq reading tells the usage that a sum pays for.",
 };
 
 fn run(given: &Given) -> Result<(), Wrong> {
-    let class = given.number(0, "CLASS is the number of a class");
+    let class = given.class(0);
     let usage = given.number(1, "USAGE is a number of kilowatt-hours");
     let (class, usage) = (class.map_err(Wrong::Call)?, usage.map_err(Wrong::Call)?);
     Ok(standard::print(bill::tell(class, usage).as_bytes())?)

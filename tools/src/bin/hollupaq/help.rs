@@ -21,7 +21,7 @@ pub fn of_all() -> String {
     rows.push(row("help", "tells what a command does"));
     let list = table(&[Side::Left, Side::Left], &rows);
     format!(
-        "The accounts of a book, the bills of readings and the usage that a sum pays for, as the proved core answers.\n\n\
+        "Accounts of a book, bills of readings and what a sum pays for, as the proved core answers.\n\n\
         usage: hollupaq COMMAND ..\n\n{list}\n\
         hollupaq COMMAND --help tells more of one, hollupaq --version the version.\n\
         A file that is named - is standard input or output.\n"

@@ -19,7 +19,7 @@ round, hollupaq bill works out the bill of a usage.",
 };
 
 fn run(given: &Given) -> Result<(), Wrong> {
-    let class = given.number(0, "CLASS is the number of a class");
+    let class = given.class(0);
     let sum = given.number(
         1,
         "CENTS is a whole number of cents (10000 is 100.00 dollars)",
