@@ -9,10 +9,12 @@ use lib.ListN.{length, get_or}
 use borrow.Author.Tests.{lt-ltb, ltb-true, ltb-false, leb-false, eqb-true, eqb-false, ne_eqb}
 use Rattle.std.proofs.lemmas.Bool.{and_parts}
 use Rattle.basics.proofs.Cases.{on, on_eq, picked}
+use Rattle.std.specs.Prelude.{Option}
 use Rattle.std.specs.List.{list_all}
 use Rattle.std.proofs.lemmas.List.Recursion.{and_at}
 use Rattle.rules.specs.declared.Event.{Event}
 use Rattle.rules.specs.declared.View.{View}
+use Rattle.rules.specs.declared.Calendar.{Calendar}
 use Rattle.rules.specs.Kinds.{bill, payment, returned_payment, fee, deposit_asked, deposit_paid, arrangement, final_notice, reconnection}
 use Rattle.rules.specs.Limits.{final_day, most_deposit, limit, grace, known_receipts}
 use Rattle.rules.specs.History.{History, is, within, last_posted, total}
@@ -32,31 +34,31 @@ use Rattle.rules.proofs.Passed.{Passed, passed}
 use Rattle.rules.proofs.Room.{room}
 
 -- ---- days
-pub sorted : (h : History) → Lawful h → Sorted h
-sorted [] w = tt
-sorted (e ∷ h) w = ((passed h e w.0).in_order, sorted h w.1)
+pub sorted : (c : Option Calendar) (h : History) → Lawful c h → Sorted h
+sorted c [] w = tt
+sorted c (e ∷ h) w = ((passed h e w.0).in_order, sorted c h w.1)
 
-pub in_days : (h : History) → Lawful h → last_posted h ≤ final_day
-in_days [] w = zero-le
-in_days (e ∷ h) w = (passed h e w.0).in_time
+pub in_days : (c : Option Calendar) (h : History) → Lawful c h → last_posted h ≤ final_day
+in_days c [] w = zero-le
+in_days c (e ∷ h) w = (passed h e w.0).in_time
 
 -- ---- C, and payments plus deposits moved, are at most the limit
 record Limits (h : History) : Type 0 where
   charged_le : charged h ≤ limit
   credited_le : credited h ≤ limit
 
-limits : (h : History) → Lawful h → Limits h
-limits [] w = record { charged_le = zero-le; credited_le = omega (arith, total_grows payment []) }
-limits (e ∷ h) w =
-    let k = limits h w.1 in
-    let r = room (view_of h e) e (passed h e w.0).allowed k.charged_le k.credited_le in
+limits : (c : Option Calendar) (h : History) → Lawful c h → Limits h
+limits c [] w = record { charged_le = zero-le; credited_le = omega (arith, total_grows payment []) }
+limits c (e ∷ h) w =
+    let k = limits c h w.1 in
+    let r = room (view_of c h e) e (passed h e w.0).allowed k.charged_le k.credited_le in
     record { charged_le = r.charged_room; credited_le = rw credited_step r.credited_room }
 
-pub charged_limit : (h : History) → Lawful h → charged h ≤ limit
-charged_limit h w = (limits h w).charged_le
+pub charged_limit : (c : Option Calendar) (h : History) → Lawful c h → charged h ≤ limit
+charged_limit c h w = (limits c h w).charged_le
 
-pub credited_limit : (h : History) → Lawful h → credited h ≤ limit
-credited_limit h w = (limits h w).credited_le
+pub credited_limit : (c : Option Calendar) (h : History) → Lawful c h → credited h ≤ limit
+credited_limit c h w = (limits c h w).credited_le
 
 -- arrears are at most C
 pub arrears_charged : (h : History) (t : ℕ) → arrears h t ≤ charged h
@@ -91,10 +93,10 @@ pub record Held (h : History) : Type 0 where
   pub held_le : held h ≤ required h
   pub required_le : required h ≤ most_deposit
 
-pub held_in_lem : (h : History) → Lawful h → Held h
-held_in_lem [] w = record { held_le = omega (arith, total_grows deposit_paid []); required_le = zero-le }
-held_in_lem (e ∷ h) w =
-    let k = held_in_lem h w.1 in
+pub held_in_lem : (c : Option Calendar) (h : History) → Lawful c h → Held h
+held_in_lem c [] w = record { held_le = omega (arith, total_grows deposit_paid []); required_le = zero-le }
+held_in_lem c (e ∷ h) w =
+    let k = held_in_lem c h w.1 in
     let p = passed h e w.0 in
     let paid = total_since deposit_paid moves e h in
     let asked = newest_since deposit_asked moves e h in
@@ -102,12 +104,12 @@ held_in_lem (e ∷ h) w =
     (λ m. record { held_le = rw (paid, asked, m) zero-le; required_le = rw (asked, m) zero-le })
     (λ m. on_eq e.kind deposit_asked
     (λ q z.
-    let a = asked_over (view_of h e) e p.allowed.r7 z in
+    let a = asked_over (view_of c h e) e p.allowed.r7 z in
     let b = (ranged deposit_asked e p.fields_fit z).amount_high in
     record { held_le = rw (paid, asked, z) (omega arith); required_le = rw (asked, z) (omega arith) })
     (λ q z. on_eq e.kind deposit_paid
     (λ r y.
-    let a = paid_within (view_of h e) e p.allowed.r7 y in
+    let a = paid_within (view_of c h e) e p.allowed.r7 y in
     record { held_le = rw (paid, asked, y) (omega arith); required_le = rw (asked, y) (omega arith) })
     (λ r y. record { held_le = rw (paid, asked, m, q, r) (omega arith); required_le = rw (asked, m, q) k.required_le })))
 
@@ -122,7 +124,7 @@ pub record Known (till : ℕ) (h : History) (r : ℕ) : Type 0 where
   pub high : r ≤ length (payments till h)
   pub near : length (payments till h) < r + known_receipts
 
-pub return_known : (h : History) (e : Event) → Passed h e → e.kind ≡ returned_payment → Known e.option h e.amount
+pub return_known : {c : Option Calendar} (h : History) (e : Event) → Passed c h e → e.kind ≡ returned_payment → Known e.option h e.amount
 return_known h e p z =
     let n = length (payments e.option h) in
     let r : eqb (named_payment h e) 0 ≡ false = rw z at p.allowed.r6 in
@@ -132,22 +134,22 @@ return_known h e p z =
     record { low = w.0; high = w.1; near = omega (arith, ltb-true (n - e.amount) known_receipts (and_parts (within 1 n e.amount) _ b).1) }
 
 -- no receipt past a till's count was returned
-pub not_yet : (till : ℕ) (h : History) → Lawful h → (r : ℕ) → length (payments till h) < r → returned till h r ≡ false
-not_yet till [] w r p = refl
-not_yet till (e ∷ h) w r p =
+pub not_yet : (c : Option Calendar) (till : ℕ) (h : History) → Lawful c h → (r : ℕ) → length (payments till h) < r → returned till h r ≡ false
+not_yet c till [] w r p = refl
+not_yet c till (e ∷ h) w r p =
     let l : length (payments till h) < r = on (is_at till payment e) (λ t. let p' = (rw t at p) in omega arith) (λ t. rw t at p) in
     on (is_at till returned_payment e)
     (λ q.
     let s = eqb-true e.option till (and_parts (is returned_payment e) (eqb e.option till) q).1 in
-    let c : Known till h e.amount = rw s at (return_known h e (passed h e w.0) (of_till till returned_payment e q)) in
-    rw (q, ne_eqb e.amount r (omega (arith, c.high))) (not_yet till h w.1 r l))
-    (λ q. rw q (not_yet till h w.1 r l))
+    let k : Known till h e.amount = rw s at (return_known h e (passed h e w.0) (of_till till returned_payment e q)) in
+    rw (q, ne_eqb e.amount r (omega (arith, k.high))) (not_yet c till h w.1 r l))
+    (λ q. rw q (not_yet c till h w.1 r l))
 
 -- each payment is 1 or more, so a till has no more payments than there are cents
-payments_count : (till : ℕ) (h : History) → Lawful h → length (payments till h) ≤ total payment h
-payments_count till [] w = zero-le
-payments_count till (e ∷ h) w =
-    let ih = payments_count till h w.1 in
+payments_count : (c : Option Calendar) (till : ℕ) (h : History) → Lawful c h → length (payments till h) ≤ total payment h
+payments_count c till [] w = zero-le
+payments_count c till (e ∷ h) w =
+    let ih = payments_count c till h w.1 in
     let more = total_grows payment (e ∷ h) in
     on (is_at till payment e)
     (λ q.
@@ -155,36 +157,36 @@ payments_count till (e ∷ h) w =
     let a = (ranged payment e (passed h e w.0).fields_fit z).amount_low in rw (more, q, z) (omega arith))
     (λ q. rw (more, q) (omega arith))
 
-pub count_limit : (till : ℕ) (h : History) → Lawful h → length (payments till h) ≤ limit
-count_limit till h w = omega (arith, payments_count till h w, credited_limit h w)
+pub count_limit : (c : Option Calendar) (till : ℕ) (h : History) → Lawful c h → length (payments till h) ≤ limit
+count_limit c till h w = omega (arith, payments_count c till h w, credited_limit c h w)
 
 -- every payment is above 0
-payments_above : (till : ℕ) (h : History) → Lawful h → list_all (ltb 0) (payments till h) ≡ true
-payments_above till [] w = refl
-payments_above till (e ∷ h) w =
-    let ih = payments_above till h w.1 in
+payments_above : (c : Option Calendar) (till : ℕ) (h : History) → Lawful c h → list_all (ltb 0) (payments till h) ≡ true
+payments_above c till [] w = refl
+payments_above c till (e ∷ h) w =
+    let ih = payments_above c till h w.1 in
     on (is_at till payment e)
     (λ q. rw (q, lt-ltb 0 e.amount (ranged payment e (passed h e w.0).fields_fit (of_till till payment e q)).amount_low) ih)
     (λ q. rw q ih)
 
 -- so the payment of a receipt is above 0 just where the receipt is known, and 0 can stand for none
-pub known_is : (till : ℕ) (h : History) → Lawful h → (r : ℕ) → known till h r ≡ ltb 0 (returnable till h r)
-known_is till h w r =
+pub known_is : (c : Option Calendar) (till : ℕ) (h : History) → Lawful c h → (r : ℕ) → known till h r ≡ ltb 0 (returnable till h r)
+known_is c till h w r =
     let n = length (payments till h) in
     on (known till h r)
     (λ k.
     let b = (and_parts (within 1 n r && ltb (n - r) known_receipts) _ k).0 in
     let v = within_true 1 n r (and_parts (within 1 n r) _ b).0 in
-    rw (k, and_at (list_all (ltb 0)) (ltb 0) refl (λ x xs. refl) (payments till h) (n - r) 0 (omega arith) (payments_above till h w)))
+    rw (k, and_at (list_all (ltb 0)) (ltb 0) refl (λ x xs. refl) (payments till h) (n - r) 0 (omega arith) (payments_above c till h w)))
     (λ k. rw k)
 
 -- ---- the arrangement
-pub debt_limit : (h : History) → Lawful h → (terms h).debt ≤ limit
-debt_limit [] w = zero-le
-debt_limit (e ∷ h) w =
+pub debt_limit : (c : Option Calendar) (h : History) → Lawful c h → (terms h).debt ≤ limit
+debt_limit c [] w = zero-le
+debt_limit c (e ∷ h) w =
     on (is arrangement e)
-    (λ q. rw q (omega (arith, arrears_charged h e.day, charged_limit h w.1)))
-    (λ q. rw q (debt_limit h w.1))
+    (λ q. rw q (omega (arith, arrears_charged h e.day, charged_limit c h w.1)))
+    (λ q. rw q (debt_limit c h w.1))
 
 paid_since_lem : (h : History) → paid_since h ≤ total payment h
 paid_since_lem [] = omega arith
@@ -192,13 +194,13 @@ paid_since_lem (e ∷ h) =
     let ih = paid_since_lem h in
     rw (total_since payment (is arrangement) e h, total_grows payment (e ∷ h)) (on (is arrangement e) (λ q. rw q zero-le) (λ q. rw q (omega arith)))
 
-pub paid_limit : (h : History) → Lawful h → paid_since h ≤ limit
-paid_limit h w = omega (arith, paid_since_lem h, credited_limit h w)
+pub paid_limit : (c : Option Calendar) (h : History) → Lawful c h → paid_since h ≤ limit
+paid_limit c h w = omega (arith, paid_since_lem h, credited_limit c h w)
 
 -- a returned payment is charged again
 returned_since_lem : (h : History) → returned_since h ≤ charged h
 returned_since_lem [] = zero-le
 returned_since_lem (e ∷ h) = let ih = returned_since_lem h in on (is arrangement e) (λ q. rw q zero-le) (λ q. rw q (omega arith))
 
-pub returned_limit : (h : History) → Lawful h → returned_since h ≤ limit
-returned_limit h w = omega (arith, returned_since_lem h, charged_limit h w)
+pub returned_limit : (c : Option Calendar) (h : History) → Lawful c h → returned_since h ≤ limit
+returned_limit c h w = omega (arith, returned_since_lem h, charged_limit c h w)

@@ -8,6 +8,7 @@ use lib.Dec.{eqb, leb, ltb}
 use lib.ListN.{length, get_or}
 use borrow.Author.Tests.{eqb-true}
 use Rattle.rules.specs.declared.Event.{Event}
+use Rattle.rules.specs.declared.Calendar.{Calendar}
 use Rattle.rules.specs.Kinds as kinds
 use Rattle.rules.specs.Deposit as deposit
 use Rattle.rules.specs.Service.{service, is_on, is_off}
@@ -94,80 +95,88 @@ abbrev last_of : (Answer → ℕ) → ℕ → ℕ → List Answer → ℕ
 last_of f seen n [] = n
 last_of f seen n (a ∷ more) = cond (eqb seen 0) (last_of f (number_of a) (f a) more) 999
 
-abbrev pub number : List Event → ℕ
-number es = last_of number_of 0 0 (answers_by es)
+abbrev pub number : Option Calendar → List Event → ℕ
+number c es = last_of number_of 0 0 (answers_by c es)
 
-abbrev pub receipt : List Event → ℕ
-receipt es = last_of receipt_of 0 0 (answers_by es)
+abbrev pub receipt : Option Calendar → List Event → ℕ
+receipt c es = last_of receipt_of 0 0 (answers_by c es)
 
 abbrev refused_in : List Answer → ℕ
 refused_in [] = 0
 refused_in (a ∷ more) = cond (eqb (number_of a) 0) 0 1 + refused_in more
 
-abbrev pub refused : List Event → ℕ
-refused es = refused_in (answers_by es)
+abbrev pub refused : Option Calendar → List Event → ℕ
+refused c es = refused_in (answers_by c es)
 
 -- what is owed, and what there is in credit: one of them is 0
-abbrev pub owed : List Event → ℕ
-owed es = charged (accepted es) - credits (accepted es)
+abbrev pub owed : Option Calendar → List Event → ℕ
+owed c es = charged (accepted c es) - credits (accepted c es)
 
-abbrev pub credit : List Event → ℕ
-credit es = credits (accepted es) - charged (accepted es)
+abbrev pub credit : Option Calendar → List Event → ℕ
+credit c es = credits (accepted c es) - charged (accepted c es)
 
-abbrev pub held : List Event → ℕ
-held es = deposit.held (accepted es)
+abbrev pub held : Option Calendar → List Event → ℕ
+held c es = deposit.held (accepted c es)
 
-abbrev pub required : List Event → ℕ
-required es = deposit.required (accepted es)
+abbrev pub required : Option Calendar → List Event → ℕ
+required c es = deposit.required (accepted c es)
 
-abbrev pub open_count : List Event → ℕ
-open_count es = length (open_items (accepted es))
+abbrev pub open_count : Option Calendar → List Event → ℕ
+open_count c es = length (open_items (accepted c es))
 
 -- the day, and the unpaid part, of open item k, from 0
-abbrev item : ℕ → List Event → Item
-item k es = get_or (open_items (accepted es)) k (record { day = 0; amount = 0; upto = 0 })
+abbrev item : ℕ → Option Calendar → List Event → Item
+item k c es = get_or (open_items (accepted c es)) k (record { day = 0; amount = 0; upto = 0 })
 
-abbrev pub open_day : ℕ → List Event → ℕ
-open_day k es = (item k es).day
+abbrev pub open_day : ℕ → Option Calendar → List Event → ℕ
+open_day k c es = (item k c es).day
 
-abbrev pub open_part : ℕ → List Event → ℕ
-open_part k es = unpaid (credits (accepted es)) (item k es)
+abbrev pub open_part : ℕ → Option Calendar → List Event → ℕ
+open_part k c es = unpaid (credits (accepted c es)) (item k c es)
 
-abbrev pub arrears : ℕ → List Event → ℕ
-arrears t es = money.arrears (accepted es) t
+abbrev pub arrears : ℕ → Option Calendar → List Event → ℕ
+arrears t c es = money.arrears (accepted c es) t
 
 -- on day t: a notice is live, a certificate is live, an arrangement is in force; 1 for yes
-abbrev pub live : ℕ → List Event → ℕ
-live t es = cond (notice_live (accepted es) t) 1 0
+abbrev pub live : ℕ → Option Calendar → List Event → ℕ
+live t c es = cond (notice_live (accepted c es) t) 1 0
 
-abbrev pub certified : ℕ → List Event → ℕ
-certified t es = cond (medical.certified (accepted es) t) 1 0
+abbrev pub certified : ℕ → Option Calendar → List Event → ℕ
+certified t c es = cond (medical.certified (accepted c es) t) 1 0
 
-abbrev pub stands : ℕ → List Event → ℕ
-stands t es = cond (in_force (accepted es) t) 1 0
+abbrev pub stands : ℕ → Option Calendar → List Event → ℕ
+stands t c es = cond (in_force (accepted c es) t) 1 0
 
 -- 0 on, 1 off, 2 closed
-abbrev pub service_is : List Event → ℕ
-service_is es = cond (is_on (service (accepted es))) 0 (cond (is_off (service (accepted es))) 1 2)
+abbrev pub service_is : Option Calendar → List Event → ℕ
+service_is c es = cond (is_on (service (accepted c es))) 0 (cond (is_off (service (accepted c es))) 1 2)
 
 -- ---- cases
--- a name, a list of events in the order posted, a question, and its answer
+-- a name, the calendar that the account was begun with or none, a list of events in the order posted, a question, and its answer
 pub record Case : Type 0 where
   pub name : String
+  pub calendar : Option Calendar
   pub events : List Event
-  pub asks : List Event → ℕ
+  pub asks : Option Calendar → List Event → ℕ
   pub expected : ℕ
 
 -- the last event is answered with the number, all before it being accepted
 abbrev pub ends : String → List Event → ℕ → Case
-ends s es n = record { name = s; events = es; asks = number; expected = n }
+ends s es n = record { name = s; calendar = None; events = es; asks = number; expected = n }
 
-abbrev pub shows : String → (List Event → ℕ) → List Event → ℕ → Case
-shows s f es n = record { name = s; events = es; asks = f; expected = n }
+abbrev pub shows : String → (Option Calendar → List Event → ℕ) → List Event → ℕ → Case
+shows s f es n = record { name = s; calendar = None; events = es; asks = f; expected = n }
+
+-- the same with a calendar
+abbrev pub ends_by : String → Calendar → List Event → ℕ → Case
+ends_by s c es n = record { name = s; calendar = Some c; events = es; asks = number; expected = n }
+
+abbrev pub shows_by : String → (Option Calendar → List Event → ℕ) → Calendar → List Event → ℕ → Case
+shows_by s f c es n = record { name = s; calendar = Some c; events = es; asks = f; expected = n }
 
 -- what is worked out without events
 abbrev pub gives : String → ℕ → ℕ → Case
-gives s found n = record { name = s; events = []; asks = λ es. found; expected = n }
+gives s found n = record { name = s; calendar = None; events = []; asks = λ c es. found; expected = n }
 
 -- the cents of the bill of a class and a usage, and the number that refuses one
 abbrev pub bills : String → ℕ → ℕ → ℕ → Case
@@ -229,4 +238,4 @@ unread s class sum n = gives s (number_of (reading_of class sum)) n
 -- the names of the cases that do not hold
 abbrev pub wrong : List Case → List String
 wrong [] = []
-wrong (c ∷ cs) = cond (eqb (c.asks c.events) c.expected) (wrong cs) (c.name ∷ wrong cs)
+wrong (c ∷ cs) = cond (eqb (c.asks c.calendar c.events) c.expected) (wrong cs) (c.name ∷ wrong cs)

@@ -1,4 +1,5 @@
 pub mod Days
+pub mod Workdays
 pub mod Items
 pub mod LateCharge
 pub mod Sums
@@ -14,4 +15,5 @@ pub mod Paper
 pub mod Tickets
 pub mod Edges
 pub mod Orders
+pub mod Calendars
 pub mod Marked

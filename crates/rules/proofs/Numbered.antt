@@ -7,7 +7,7 @@ use Rattle.std.proofs.lemmas.Result.{err_from_is_err_and}
 use Rattle.basics.proofs.Cases.{on}
 use Rattle.std.specs.List.{list_all}
 use Rattle.rules.specs.declared.refusals.Refusal.{Refusal}
-use Rattle.rules.specs.declared.refusals.Refusal.TheVariants.{NoAccount, PastLastDay, BeforeLastEvent, OutOfRange, Closed, WrongService, NoPayment, WrongSum, NotEarned, NothingToArrange, LowArrears, NoticeLive, NoNotice, NoCall, Arranged, Certified, InArrears, DepositShort, TooManyOpen, PastLimit, BadBook, BadRecord, TooShort, NoTariff}
+use Rattle.rules.specs.declared.refusals.Refusal.TheVariants.{NoAccount, PastLastDay, BeforeLastEvent, OutOfRange, Closed, WrongService, NoPayment, WrongSum, NotEarned, NothingToArrange, LowArrears, NoticeLive, NoNotice, NoCall, Arranged, Certified, InArrears, DepositShort, TooManyOpen, PastLimit, BadBook, BadRecord, TooShort, NoTariff, OutsideCalendar}
 use Rattle.rules.specs.declared.Event.{Event}
 use Rattle.rules.specs.declared.View.{View}
 use Rattle.rules.specs.Refusals.{refusal_number, refusals, refusal_of}
@@ -59,6 +59,7 @@ of_number BadBook = refl
 of_number BadRecord = refl
 of_number TooShort = refl
 of_number NoTariff = refl
+of_number OutsideCalendar = refl
 
 pub number_back : (r s : Refusal) → refusal_number r ≡ refusal_number s → r ≡ s
 number_back r s e = sym (of_number r) ∙ (ap refusal_of e ∙ of_number s)
@@ -83,7 +84,7 @@ row_in k (r ∷ rs) v e rest w h =
 
 pub refusal_in_table : (v : View) (e : Event) → refusal_by v e < length refusals
 unfolding refusal_by
-refusal_in_table v e = row_in 24 table v e 0 refl (omega arith)
+refusal_in_table v e = row_in 25 table v e 0 refl (omega arith)
 
 pub day_rows_in_table : (last t rest : ℕ) → rest < length refusals → day_rows last t rest < length refusals
 day_rows_in_table last t rest h =

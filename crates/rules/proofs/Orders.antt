@@ -32,7 +32,7 @@ abbrev paid_bills : ℕ → List Event
 paid_bills n = times n (bill 0 10000000000 ∷ payment 0 10000000000 ∷ [])
 
 -- C at the limit by late charges too, and 64 open items of day 0: rows 18 and 19 refuse every new item
-abbrev brim : List Event
+abbrev pub brim : List Event
 brim = paid_bills 19 ++ times 63 (bill 0 10000000000 ∷ []) ++ (bill 0 2423303858 ∷ [])
 
 -- a live notice, and one fee short of the same

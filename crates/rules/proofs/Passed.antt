@@ -5,9 +5,11 @@ use mathlib.Core.Bool.{Bool, true, false, cond, not, ◌&&◌}
 use mathlib.Core.List.{List, [], ◌∷◌}
 use lib.Dec.{ltb, eqb}
 use borrow.Author.Tests.{ltb-false, eqb-false, not-true, not-false}
+use Rattle.std.specs.Prelude.{Option}
 use Rattle.std.proofs.lemmas.Bool.{and_parts}
 use Rattle.rules.specs.declared.Event.{Event}
 use Rattle.rules.specs.declared.View.{View}
+use Rattle.rules.specs.declared.Calendar.{Calendar}
 use Rattle.rules.specs.Limits.{final_day}
 use Rattle.rules.specs.History.{History, last_posted}
 use Rattle.rules.specs.Range.{in_range}
@@ -29,6 +31,7 @@ use Rattle.rules.specs.Table.{
   row17,
   row18,
   row19,
+  row24,
   table,
   first_of,
   refusal_by,
@@ -39,6 +42,7 @@ use Rattle.rules.specs.Accepted.{view_of, refusal}
 pub record Allowed (v : View) (e : Event) : Type 0 where
   pub r4 : row4 v e ≡ false
   pub r5 : row5 v e ≡ false
+  pub r24 : row24 v e ≡ false
   pub r6 : row6 v e ≡ false
   pub r7 : row7 v e ≡ false
   pub r8 : row8 v e ≡ false
@@ -55,11 +59,11 @@ pub record Allowed (v : View) (e : Event) : Type 0 where
   pub r19 : row19 v e ≡ false
 
 -- an event that no number refuses after h
-pub record Passed (h : History) (e : Event) : Type 0 where
+pub record Passed (c : Option Calendar) (h : History) (e : Event) : Type 0 where
   pub in_time : e.day ≤ final_day
   pub in_order : last_posted h ≤ e.day
   pub fields_fit : in_range e ≡ true
-  pub allowed : Allowed (view_of h e) e
+  pub allowed : Allowed (view_of c h e) e
 
 -- of a choice that gives 0, where the first part is no 0: it was not taken, and the other is 0
 pub skipped : (b : Bool) (n rest : ℕ) → (n ≡ 0 → ⊥) → cond b n rest ≡ 0 → (b ≡ false) × (rest ≡ 0)
@@ -90,30 +94,31 @@ allowed v e p =
     record {
       r4 = f.0;
       r5 = f.1.0;
-      r6 = f.1.1.0;
-      r7 = f.1.1.1.0;
-      r8 = f.1.1.1.1.0;
-      r9 = f.1.1.1.1.1.0;
-      r10 = f.1.1.1.1.1.1.0;
-      r11 = f.1.1.1.1.1.1.1.0;
-      r12 = f.1.1.1.1.1.1.1.1.0;
-      r13 = f.1.1.1.1.1.1.1.1.1.0;
-      r14 = f.1.1.1.1.1.1.1.1.1.1.0;
-      r15 = f.1.1.1.1.1.1.1.1.1.1.1.0;
-      r16 = f.1.1.1.1.1.1.1.1.1.1.1.1.0;
-      r17 = f.1.1.1.1.1.1.1.1.1.1.1.1.1.0;
-      r18 = f.1.1.1.1.1.1.1.1.1.1.1.1.1.1.0;
-      r19 = f.1.1.1.1.1.1.1.1.1.1.1.1.1.1.1.0;
+      r24 = f.1.1.0;
+      r6 = f.1.1.1.0;
+      r7 = f.1.1.1.1.0;
+      r8 = f.1.1.1.1.1.0;
+      r9 = f.1.1.1.1.1.1.0;
+      r10 = f.1.1.1.1.1.1.1.0;
+      r11 = f.1.1.1.1.1.1.1.1.0;
+      r12 = f.1.1.1.1.1.1.1.1.1.0;
+      r13 = f.1.1.1.1.1.1.1.1.1.1.0;
+      r14 = f.1.1.1.1.1.1.1.1.1.1.1.0;
+      r15 = f.1.1.1.1.1.1.1.1.1.1.1.1.0;
+      r16 = f.1.1.1.1.1.1.1.1.1.1.1.1.1.0;
+      r17 = f.1.1.1.1.1.1.1.1.1.1.1.1.1.1.0;
+      r18 = f.1.1.1.1.1.1.1.1.1.1.1.1.1.1.1.0;
+      r19 = f.1.1.1.1.1.1.1.1.1.1.1.1.1.1.1.1.0;
     }
 
-pub passed : (h : History) (e : Event) → refusal h e ≡ 0 → Passed h e
-passed h e p =
+pub passed : {c : Option Calendar} (h : History) (e : Event) → refusal c h e ≡ 0 → Passed c h e
+passed {c} h e p =
     let one = skipped (ltb final_day e.day) 1 _ (eqb-false 1 0 refl) p in
     let two = skipped (ltb e.day (last_posted h)) 2 _ (eqb-false 2 0 refl) one.1 in
-    let three = skipped (not (in_range e)) 3 (refusal_by (view_of h e) e) (eqb-false 3 0 refl) two.1 in
+    let three = skipped (not (in_range e)) 3 (refusal_by (view_of c h e) e) (eqb-false 3 0 refl) two.1 in
     record {
       in_time = ltb-false final_day e.day one.0;
       in_order = ltb-false e.day (last_posted h) two.0;
       fields_fit = not-false (in_range e) three.0;
-      allowed = allowed (view_of h e) e three.1;
+      allowed = allowed (view_of c h e) e three.1;
     }

@@ -6,6 +6,7 @@ pub mod Receipts
 pub mod Deposit
 pub mod Money
 pub mod Service
+pub mod Workdays
 pub mod Notice
 pub mod Medical
 pub mod Arrangement

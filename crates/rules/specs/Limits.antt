@@ -41,13 +41,20 @@ grace = 20
 abbrev pub enough : ℕ
 enough = 5_000
 
--- a disconnection wants a notice that is at least so many days old
+-- a disconnection wants a notice that has waited so many days, or with a calendar so many working days
 abbrev pub notice_from : ℕ
 notice_from = 5
 
 -- and a notice is live for so many days after its own
 abbrev pub notice_to : ℕ
 notice_to = 20
+
+-- a calendar has so many days, and as many bits in words of 64
+abbrev pub calendar_days : ℕ
+calendar_days = 2_048
+
+abbrev pub calendar_words : ℕ
+calendar_words = 32
 
 -- a call counts on so many days after its own
 abbrev pub call_days : ℕ

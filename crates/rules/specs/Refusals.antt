@@ -1,4 +1,4 @@
--- The refusals and their numbers: document 01's table, 23 of document 02, and 0.
+-- The refusals and their numbers: document 01's table, 23 and 24 of document 02, and 0.
 use Rattle.std.specs.Prelude.{ℕ, List, [], ◌∷◌, get_or}
 use Rattle.rules.specs.declared.refusals.Refusal.{Refusal}
 use Rattle.rules.specs.declared.refusals.Refusal.TheVariants.{
@@ -26,6 +26,7 @@ use Rattle.rules.specs.declared.refusals.Refusal.TheVariants.{
   BadRecord,
   TooShort,
   NoTariff,
+  OutsideCalendar,
 }
 
 -- the number of a refusal
@@ -54,6 +55,7 @@ refusal_number BadBook = 20
 refusal_number BadRecord = 21
 refusal_number TooShort = 22
 refusal_number NoTariff = 23
+refusal_number OutsideCalendar = 24
 
 -- the refusals by number, from 0 on
 abbrev pub refusals : List Refusal
@@ -82,6 +84,7 @@ refusals =
     ∷ BadRecord
     ∷ TooShort
     ∷ NoTariff
+    ∷ OutsideCalendar
     ∷ []
 
 -- the refusal of a number

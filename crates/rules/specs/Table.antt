@@ -1,4 +1,4 @@
--- What is refused: rows 4 to 19 of the table, of a View and an event alone.
+-- What is refused: rows 4 to 19 and 24 of the table, of a View and an event alone.
 use Rattle.std.specs.Prelude.{ℕ, ◌+◌, ◌-◌, Bool, cond, not, ◌&&◌, ◌||◌, List, [], ◌∷◌, leb, ltb, eqb}
 use Rattle.rules.specs.declared.Event.{Event}
 use Rattle.rules.specs.declared.View.{View}
@@ -38,6 +38,10 @@ abbrev pub row5 : View → Event → Bool
 row5 v e =
     ((is final_notice e || is call e || is disconnection e) && not (is_on v.service))
     || (is reconnection e && not (is_off v.service))
+
+-- 24, after 5 and before 10: notice or disconnection on a day outside the calendar
+abbrev pub row24 : View → Event → Bool
+row24 v e = (is final_notice e || is disconnection e) && not v.in_calendar
 
 -- 6: receipt not known, or returned
 abbrev pub row6 : View → Event → Bool
@@ -110,11 +114,12 @@ infix 20 ◌when◌
 abbrev pub ◌when◌ : ℕ → (View → Event → Bool) → Row
 n when p = record { number = n; refuses = p }
 
--- checks go in the order of the numbers
+-- checks go in the order of the numbers, but for 24
 abbrev pub table : List Row
 table =
     (4 when row4)
     ∷ (5 when row5)
+    ∷ (24 when row24)
     ∷ (6 when row6)
     ∷ (7 when row7)
     ∷ (8 when row8)

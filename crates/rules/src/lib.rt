@@ -14,6 +14,7 @@ ghost use Rattle.rules.specs.Service.{is_on, is_off, is_closed};
 ghost use Rattle.rules.specs.Kinds.{kind_number};
 
 use kinds::Kind;
+use limits::CALENDAR_WORDS;
 use refusals::Refusal;
 
 // One thing that happened to an account. specs/Kinds.antt names the sixteen kinds, specs/Range.antt the fields of each. The kind stays a
@@ -54,6 +55,14 @@ pub enum Service {
 // Accepted, with the receipt of a payment, 0 for others: the papers' value of an answer, which C adds to 256; or refused.
 pub type Answer = Result<u64, Refusal>;
 
+// The calendar that an account may be given when it is begun: its first day, and a bit for each of its days in order, the lowest of the
+// first word first; a set bit is a working day.
+#[derive(Clone, Copy)]
+pub struct Calendar {
+    pub first: u32,
+    pub bits: [u64; CALENDAR_WORDS],
+}
+
 // What the table looks at when one event is offered, flat, as the definitions speak of it. An account makes one of its fields, the rules
 // one of the history.
 #[derive(Clone, Copy)]
@@ -76,6 +85,8 @@ pub struct View {
     pub in_force: bool,
     pub notice_live: bool,
     pub notice_in_days: bool,
+    // the day lies in the account's calendar, if it has one
+    pub in_calendar: bool,
     pub called: bool,
     pub certified: bool,
     pub approved: bool,

@@ -27,10 +27,16 @@ pub const KNOWN_RECEIPTS: u64 = 16;
 // An item is delinquent from so many days after its own.
 pub const GRACE: u64 = 20;
 
-// A disconnection wants a notice that is at least so many days old, and a notice is live for so many days after its own.
+// A disconnection wants a notice that has waited so many days, or with a calendar so many working days; and a notice is live for so
+// many days after its own.
 pub const NOTICE_FROM: u64 = 5;
 
 pub const NOTICE_TO: u64 = 20;
+
+// A calendar has so many days, and as many bits in words of 64.
+pub const CALENDAR_DAYS: u64 = 2_048;
+
+pub const CALENDAR_WORDS: usize = 32;
 
 // A call counts on so many days after its own.
 pub const CALL_DAYS: u64 = 3;

@@ -1,4 +1,4 @@
-// Why something is refused: the table of document 01 by its numbers, and 23 of document 02. The words for the desk are in tools/, so it
+// Why something is refused: the table of document 01 by its numbers, and 23 and 24 of document 02. The words for the desk are in tools/, so it
 // has no `Display`.
 ghost use Rattle.std.specs.Prelude.{◌≡◌, if◌then◌else◌};
 ghost use Rattle.rules.specs.Refusals.{refusal_number};
@@ -41,6 +41,8 @@ pub enum Refusal {
     TooShort = 22,
     // the class or the usage of a reading
     NoTariff = 23,
+    // the day is not one of the account's calendar
+    OutsideCalendar = 24,
 }
 
 impl Refusal {
