@@ -6,6 +6,8 @@ use mathlib.Core.List.{[], ◌∷◌}
 use native.Mathlib.Omega.{arith}
 use borrow.Author.Tests.{le-leb}
 use Rattle.basics.proofs.Cases.{on, on_eq}
+use Rattle.std.specs.Prelude.{Option}
+use Rattle.rules.specs.declared.Calendar.{Calendar}
 use Rattle.rules.specs.Kinds.{payment, arrangement}
 use Rattle.rules.specs.Limits.{final_day}
 use Rattle.rules.specs.History.{History, is}
@@ -36,27 +38,27 @@ record Agreed (a : Terms) : Type 0 where
   parts_le : a.parts ≤ 6
   day_le : a.day ≤ final_day * a.parts
 
-agreed : (h : History) → Lawful h → Agreed (terms h)
-agreed [] w = grind arith
-agreed (e ∷ h) w =
+agreed : (c : Option Calendar) (h : History) → Lawful c h → Agreed (terms h)
+agreed c [] w = grind arith
+agreed c (e ∷ h) w =
     let p = passed h e w.0 in
     on_eq e.kind arrangement
     (λ q z. let o = ranged arrangement e p.fields_fit z in
     rw q (record { parts_le = o.option_high; day_le = omega (arith, p.in_time, o.option_low) }))
-    (λ q z. rw q (agreed h w.1))
+    (λ q z. rw q (agreed c h w.1))
 
 -- ---- the law
 pub record ArrangementLaw (h : History) : Type 0 where
   pub in_force_is : (t : ℕ) → in_force_by (arrangement_of h) t ≡ in_force h t
   pub passes : arrangement_ok (arrangement_of h) ≡ true
 
-pub arrangement_law : (h : History) → Lawful h → ArrangementLaw h
-arrangement_law h w =
-    let a = agreed h w in
+pub arrangement_law : (c : Option Calendar) (h : History) → Lawful c h → ArrangementLaw h
+arrangement_law c h w =
+    let a = agreed c h w in
     record {
       in_force_is = λ t. rw (arrangement_is h);
       passes = rw (arrangement_is h)
-          (simp (le-leb _ _ a.parts_le, le-leb _ _ a.day_le, le-leb _ _ (debt_limit h w), le-leb _ _ (paid_limit h w), le-leb _ _ (returned_limit h w)));
+          (simp (le-leb _ _ a.parts_le, le-leb _ _ a.day_le, le-leb _ _ (debt_limit c h w), le-leb _ _ (paid_limit c h w), le-leb _ _ (returned_limit c h w)));
     }
 
 -- what the test tells

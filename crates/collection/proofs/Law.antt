@@ -5,6 +5,8 @@ use mathlib.Core.Bool.{Bool, true, cond}
 use mathlib.Core.List.{[], ◌∷◌}
 use native.Mathlib.Omega.{arith}
 use borrow.Author.Tests.{le-leb}
+use Rattle.std.specs.Prelude.{Option}
+use Rattle.rules.specs.declared.Calendar.{Calendar}
 use Rattle.rules.specs.declared.Service.{Service}
 use Rattle.rules.specs.declared.Service.TheVariants.{On, Off, Closed}
 use Rattle.rules.specs.Kinds.{disconnection, reconnection, closing}
@@ -16,7 +18,7 @@ use Rattle.rules.specs.Accepted.{Lawful}
 use Rattle.rules.proofs.Bounds.{sorted, in_days}
 use Rattle.collection.specs.Collection.{service_by, live_by, in_days_by, called_by, collection_of, collection_ok}
 use Rattle.collection.proofs.CallDays.{calls_kept, called_is}
-use Rattle.collection.proofs.NewestNotice.{alone, day_past, surviving_is}
+use Rattle.collection.proofs.NewestNotice.{alone, day_past, all_days, all_days_shut, waited_days, waited_days_shut, surviving_is}
 
 -- one event, without lists: off, on, closed, or as before
 words_are : (d r c : Bool) (n : ℕ) (s : Service) → service_by n ≡ s → service_by (cond d 1 (cond r 0 (cond c 2 n))) ≡ cond d Off (cond r On (cond c Closed s))
@@ -40,22 +42,22 @@ unfolding collection_of
 live_in [] = omega arith
 live_in (e ∷ h) = grind arith
 
-pub record CollectionLaw (h : History) : Type 0 where
+pub record CollectionLaw (c : Option Calendar) (h : History) : Type 0 where
   pub service_is : service_by (collection_of h).service ≡ service h
   pub live_is : (t : ℕ) → last_posted h ≤ t → live_by (collection_of h).notice t ≡ notice_live h t
-  pub in_days_is : (t : ℕ) → last_posted h ≤ t → in_days_by (collection_of h).notice t ≡ notice_in_days h t
+  pub in_days_is : (t : ℕ) → last_posted h ≤ t → in_days_by c (collection_of h).notice t ≡ notice_in_days c h t
   pub called_is : (t : ℕ) → last_posted h ≤ t → called_by (collection_of h).calls t ≡ called h t
   pub passes : collection_ok (collection_of h) ≡ true
 
-pub collection_law : (h : History) → Lawful h → CollectionLaw h
-collection_law h w =
-    let s = sorted h w in
+pub collection_law : (c : Option Calendar) (h : History) → Lawful c h → CollectionLaw c h
+collection_law c h w =
+    let s = sorted c h w in
     let k = calls_kept h s in
-    let d = in_days h w in
+    let d = in_days c h w in
     record {
       service_is = service_is h;
-      live_is = λ t l. sym (surviving_is (λ n. n) h t s (alone h w) l);
-      in_days_is = λ t l. sym (surviving_is (λ n. n + 5) h t s (alone h w) l);
+      live_is = λ t l. sym (surviving_is all_days all_days_shut h t s (alone c h w) l);
+      in_days_is = λ t l. sym (surviving_is (waited_days c) (waited_days_shut c) h t s (alone c h w) l);
       called_is = λ t l. called_is h t s l;
       passes = simp (
         le-leb (collection_of h).service 2 (service_in_lem h),

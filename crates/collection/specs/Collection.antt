@@ -1,12 +1,14 @@
 -- The service, the final notice and the calls that an account keeps.
-use Rattle.std.specs.Prelude.{ℕ, ◌+◌, ◌-◌, Bool, cond, not, ◌&&◌, ◌||◌, List, [], ◌∷◌, leb, eqb, get_or}
+use Rattle.std.specs.Prelude.{ℕ, ◌+◌, ◌-◌, Bool, cond, not, ◌&&◌, ◌||◌, List, [], ◌∷◌, leb, eqb, get_or, Option}
 use Rattle.rules.specs.declared.Event.{Event}
+use Rattle.rules.specs.declared.Calendar.{Calendar}
 use Rattle.rules.specs.declared.Service.{Service}
 use Rattle.rules.specs.declared.Service.TheVariants.{On, Off, Closed}
 use Rattle.rules.specs.Kinds.{final_notice, call, disconnection, reconnection, closing}
-use Rattle.rules.specs.Limits.{final_day, enough, notice_from, notice_to, call_days}
+use Rattle.rules.specs.Limits.{final_day, enough, notice_to, call_days}
 use Rattle.rules.specs.History.{History, is, within}
 use Rattle.rules.specs.Money.{arrears}
+use Rattle.rules.specs.Workdays.{waited}
 use Rattle.collection.specs.declared.Notice.{Notice}
 use Rattle.collection.specs.declared.Calls.{Calls}
 use Rattle.collection.specs.declared.Collection.{Collection}
@@ -38,12 +40,12 @@ notice_after n e owing =
       live = cond ((is final_notice e || eqb n.live 1) && not (is disconnection e) && leb enough owing) 1 0;
     }
 
--- live on t, and in its days
+-- live on t, and in its days by the calendar c or without one
 abbrev pub live_by : Notice → ℕ → Bool
 live_by n t = eqb n.live 1 && within n.day (n.day + notice_to) t
 
-abbrev pub in_days_by : Notice → ℕ → Bool
-in_days_by n t = eqb n.live 1 && within (n.day + notice_from) (n.day + notice_to) t
+abbrev pub in_days_by : Option Calendar → Notice → ℕ → Bool
+in_days_by c n t = eqb n.live 1 && (leb t (n.day + notice_to) && waited c n.day t)
 
 -- ---- calls
 abbrev pub no_calls : Calls

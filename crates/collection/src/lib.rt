@@ -6,10 +6,11 @@
 ghost use Rattle.std.specs.Prelude.{◌≡◌, ◌+◌, length};
 ghost use Rattle.span.proofs.Law.{whole as all_words};
 ghost use Rattle.rules.specs.History.{within};
+ghost use Rattle.workdays.specs.Kept.{workdays_on, calendar_by};
 ghost use Rattle.collection.specs.Collection.{service_by, served_after, notice_after, live_by, in_days_by, calls_after, recent_by, called_by, collection_after, watched, concerns, lapsed_by, collection_ok, collection_size, collection_on, collection_words};
 
 use rules::kinds::Kind;
-use rules::limits::{CALL_DAYS, ENOUGH, FINAL_DAY, NOTICE_FROM, NOTICE_TO};
+use rules::limits::{CALL_DAYS, ENOUGH, FINAL_DAY, NOTICE_TO};
 use rules::{Event, Service};
 use span::Part;
 
@@ -96,11 +97,13 @@ impl Notice {
         self.live == 1 && window(self.day, 0, NOTICE_TO, t)
     }
 
-    // A question of its own beside `is_live`, as the rules have the two.
-    fn in_days(self, t: u64) -> bool
-        ensures { result ≡ in_days_by self t }
+    // A question of its own beside `is_live`, as the rules have the two. The calendar is looked at last, for twenty days at most.
+    fn in_days(self, calendar: &[u64; workdays::WORDS], t: u64) -> bool
+        ensures { result ≡ in_days_by (calendar_by (workdays_on calendar.now)) self t }
     {
-        self.live == 1 && window(self.day, NOTICE_FROM, NOTICE_TO, t)
+        self.live == 1
+            && t.saturating_sub(self.day) <= NOTICE_TO
+            && workdays::waited(calendar, self.day, t)
     }
 }
 
@@ -158,11 +161,11 @@ impl Collection {
         self.notice.is_live(t)
     }
 
-    // Whether day t is one of the days of a live notice on which a disconnection is allowed.
-    pub fn notice_in_days(self, t: u64) -> bool
-        ensures { result ≡ in_days_by self.notice t }
+    // Whether day t is one of the days of a live notice on which a disconnection is allowed, by the words of the account's calendar.
+    pub fn notice_in_days(self, calendar: &[u64; workdays::WORDS], t: u64) -> bool
+        ensures { result ≡ in_days_by (calendar_by (workdays_on calendar.now)) self.notice t }
     {
-        self.notice.in_days(t)
+        self.notice.in_days(calendar, t)
     }
 
     // Whether there was a call on some day from t − 3 to t − 1.

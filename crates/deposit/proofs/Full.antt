@@ -6,6 +6,8 @@ use mathlib.Core.Bool.{true, false, cond, true≢false}
 use mathlib.Core.List.{[], ◌∷◌}
 use native.Mathlib.Omega.{arith}
 use Rattle.basics.proofs.Cases.{on, on_eq}
+use Rattle.std.specs.Prelude.{Option}
+use Rattle.rules.specs.declared.Calendar.{Calendar}
 use Rattle.rules.specs.declared.Event.{Event}
 use Rattle.rules.specs.Kinds.{deposit_asked, deposit_paid}
 use Rattle.rules.specs.Limits.{final_day}
@@ -22,9 +24,9 @@ abbrev pub paid_on : History → ℕ
 paid_on [] = 0
 paid_on (e ∷ h) = cond (is deposit_paid e) e.day (paid_on h)
 
-pub paid_in : (h : History) → Lawful h → paid_on h ≤ final_day
-paid_in [] w = zero-le
-paid_in (e ∷ h) w = on (is deposit_paid e) (λ q. rw q (passed h e w.0).in_time) (λ q. rw q (paid_in h w.1))
+pub paid_in : (c : Option Calendar) (h : History) → Lawful c h → paid_on h ≤ final_day
+paid_in c [] w = zero-le
+paid_in c (e ∷ h) w = on (is deposit_paid e) (λ q. rw q (passed h e w.0).in_time) (λ q. rw q (paid_in c h w.1))
 
 -- ---- what full says
 record Full (h : History) : Type 0 where
@@ -34,12 +36,12 @@ record Full (h : History) : Type 0 where
 is_full_lem : (h : History) → full h ≡ true → Full h
 is_full_lem h f = grind arith
 
-module _ (h : History) (e : Event) (p : Passed h e) where
+module _ (c : Option Calendar) (h : History) (e : Event) (p : Passed c h e) where
   -- while it is full no deposit is paid
   none_paid : full h ≡ true → e.kind ≡ deposit_paid → ⊥
   none_paid f z =
       let k = is_full_lem h f in
-      let a = paid_within (view_of h e) e p.allowed.r7 z in
+      let a = paid_within (view_of c h e) e p.allowed.r7 z in
       let b = (ranged deposit_paid e p.fields_fit z).amount_low in
       omega arith
 
@@ -53,7 +55,7 @@ module _ (h : History) (e : Event) (p : Passed h e) where
       (λ m. let r : required (e ∷ h) ≡ 0 = rw (asked, m) in omega (arith, k.some))
       (λ m. on_eq e.kind deposit_asked
       (λ q z.
-      let a = asked_over (view_of h e) e p.allowed.r7 z in
+      let a = asked_over (view_of c h e) e p.allowed.r7 z in
       let s : held (e ∷ h) ≡ held h + 0 = rw (paid, m, y) in
       let r : required (e ∷ h) ≡ e.amount = rw (asked, m, q) in
       omega (arith, k.all))
@@ -63,14 +65,14 @@ module _ (h : History) (e : Event) (p : Passed h e) where
       let u : full (e ∷ h) ≡ full h = rw (s, r) in
       true≢false (sym f ∙ (u ∙ g))))
 
-pub full_is : (h : History) → Lawful h → full h ≡ true → paid_on h ≡ full_on h
-full_is [] w f = refl
-full_is (e ∷ h) w f =
+pub full_is : (c : Option Calendar) (h : History) → Lawful c h → full h ≡ true → paid_on h ≡ full_on h
+full_is c [] w f = refl
+full_is c (e ∷ h) w f =
     let p = passed h e w.0 in
     on (full h)
     (λ g. on_eq e.kind deposit_paid
-    (λ q z. absurd (none_paid h e p g z))
-    (λ q z. rw (g, q) (full_is h w.1 g)))
+    (λ q z. absurd (none_paid c h e p g z))
+    (λ q z. rw (g, q) (full_is c h w.1 g)))
     (λ g. on (is deposit_paid e)
     (λ q. rw (g, q))
-    (λ q. absurd (none_fills h e p g q f)))
+    (λ q. absurd (none_fills c h e p g q f)))

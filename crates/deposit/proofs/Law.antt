@@ -7,6 +7,8 @@ use native.Mathlib.Omega.{arith}
 use lib.Dec.{leb}
 use borrow.Author.Tests.{le-leb}
 use Rattle.basics.proofs.Cases.{on}
+use Rattle.std.specs.Prelude.{Option}
+use Rattle.rules.specs.declared.Calendar.{Calendar}
 use Rattle.rules.specs.Kinds.{deposit_asked, deposit_paid}
 use Rattle.rules.specs.Limits.{final_day, year}
 use Rattle.rules.specs.History.{History, last_posted}
@@ -28,10 +30,10 @@ deposit_is (e ∷ h) =
     ap (λ d. deposit_after d e) (deposit_is h)
     ∙ rw (total_since deposit_paid moves e h, newest_since deposit_asked moves e h)
 
-conduct_ok_lem : (h : History) → Lawful h → conduct_ok (conduct_of h) ≡ true
-conduct_ok_lem h w =
-    let k = year_kept h (sorted h w) in
-    let d = in_days h w in
+conduct_ok_lem : (c : Option Calendar) (h : History) → Lawful c h → conduct_ok (conduct_of h) ≡ true
+conduct_ok_lem c h w =
+    let k = year_kept h (sorted c h w) in
+    let d = in_days c h w in
     simp (
       le-leb (conduct_of h).first (final_day + 1) (omega arith),
       le-leb _ _ k.two,
@@ -40,8 +42,8 @@ conduct_ok_lem h w =
     )
 
 -- full for 365 days
-long_is : (h : History) → Lawful h → (t : ℕ) → (full h && leb (paid_on h + year) t) ≡ (full h && leb (full_on h + year) t)
-long_is h w t = on (full h) (λ f. rw (full_is h w f)) (λ f. rw f)
+long_is : (c : Option Calendar) (h : History) → Lawful c h → (t : ℕ) → (full h && leb (paid_on h + year) t) ≡ (full h && leb (full_on h + year) t)
+long_is c h w t = on (full h) (λ f. rw (full_is c h w f)) (λ f. rw f)
 
 pub record DepositLaw (h : History) : Type 0 where
   pub held_is : (deposit_of h).held ≡ held h
@@ -50,15 +52,15 @@ pub record DepositLaw (h : History) : Type 0 where
   pub earned_is : (t : ℕ) → last_posted h ≤ t → earned_by (deposit_of h) t ≡ earned h t
   pub passes : deposit_ok (deposit_of h) ≡ true
 
-pub deposit_law : (h : History) → Lawful h → DepositLaw h
-deposit_law h w =
-    let k = held_in_lem h w in
+pub deposit_law : (c : Option Calendar) (h : History) → Lawful c h → DepositLaw h
+deposit_law c h w =
+    let k = held_in_lem c h w in
     record {
       held_is = rw (deposit_is h);
       required_is = rw (deposit_is h);
-      full_is = λ f. rw (deposit_is h) (full_is h w f);
-      earned_is = λ t l. rw (deposit_is h, quiet_is h t (sorted h w) l, long_is h w t) (sym (and_assoc (full h && leb (full_on h + year) t) _ _));
-      passes = rw (deposit_is h) (simp (le-leb _ _ k.held_le, le-leb _ _ k.required_le, le-leb _ _ (paid_in h w), conduct_ok_lem h w));
+      full_is = λ f. rw (deposit_is h) (full_is c h w f);
+      earned_is = λ t l. rw (deposit_is h, quiet_is h t (sorted c h w) l, long_is c h w t) (sym (and_assoc (full h && leb (full_on h + year) t) _ _));
+      passes = rw (deposit_is h) (simp (le-leb _ _ k.held_le, le-leb _ _ k.required_le, le-leb _ _ (paid_in c h w), conduct_ok_lem c h w));
     }
 
 -- what the test tells

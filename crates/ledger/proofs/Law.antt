@@ -14,6 +14,8 @@ use Rattle.basics.proofs.Cases.{on}
 use Rattle.std.specs.List.{All, filter}
 use Rattle.std.proofs.lemmas.List.Elements.{All-nil, All-cons, All-append, All-weaker, filter-append}
 use Rattle.std.proofs.lemmas.List.Sums.{length-filter, count_by-le-length}
+use Rattle.std.specs.Prelude.{Option}
+use Rattle.rules.specs.declared.Calendar.{Calendar}
 use Rattle.rules.specs.declared.Event.{Event}
 use Rattle.rules.specs.Kinds.{payment, payout}
 use Rattle.rules.specs.History.{History, amount_if, total}
@@ -51,49 +53,49 @@ new_sound h e r =
     let S = Sound (charged (e ∷ h)) in
     on (charges e) (λ q. rw q (All-cons S _ [] (omega arith, charge_above h e r q) (All-nil S))) (λ q. rw q (All-nil S))
 
-sound : (h : History) → Lawful h → All (Sound (charged h)) (items h)
-sound [] w = All-nil (Sound (charged []))
-sound (e ∷ h) w =
+sound : (c : Option Calendar) (h : History) → Lawful c h → All (Sound (charged h)) (items h)
+sound c [] w = All-nil (Sound (charged []))
+sound c (e ∷ h) w =
     rw (items_more h e)
     (All-append (Sound (charged (e ∷ h))) (items h) (new h e)
-    (All-weaker (Sound (charged h)) (Sound (charged (e ∷ h))) (λ x p. (omega arith, p.1)) (items h) (sound h w.1))
+    (All-weaker (Sound (charged h)) (Sound (charged (e ∷ h))) (λ x p. (omega arith, p.1)) (items h) (sound c h w.1))
     (new_sound h e (passed h e w.0).fields_fit))
 
 -- ---- an item that is closed never opens again: credits fall only by a payout, which leaves nothing open
-still : (h : History) (e : Event) → Lawful (e ∷ h) → (x : Item) → Sound (charged h) x → is_open (credits (e ∷ h)) x ≡ true → is_open (credits h) x ≡ true
-still h e w x p o =
+still : (c : Option Calendar) (h : History) (e : Event) → Lawful c (e ∷ h) → (x : Item) → Sound (charged h) x → is_open (credits (e ∷ h)) x ≡ true → is_open (credits h) x ≡ true
+still c h e w x p o =
     let b = ltb-true (credits (e ∷ h)) x.upto o in
-    let n = payouts h w.1 in
-    let f = payout_in (view_of h e) e (passed h e w.0).allowed.r7 in
+    let n = payouts c h w.1 in
+    let f = payout_in (view_of c h e) e (passed h e w.0).allowed.r7 in
     lt-ltb (credits h) x.upto (omega (arith, credited_step e h, total_grows payout (e ∷ h)))
 
--- ---- the stored form is the declared one
+-- ---- the stored c form is the declared one
 abbrev kept : History → List Item
 kept h = filter (is_open (credits h)) (items h)
 
 open_unpaid : (p : ℕ) (x : Item) → 0 < x.amount → is_open p x ≡ ltb 0 (unpaid p x)
 open_unpaid p x q = grind (arith, common_steps)
 
-kept_open : (h : History) → Lawful h → kept h ≡ open_items h
-kept_open h w = keep_same (Sound (charged h)) (is_open (credits h)) (λ x. ltb 0 (unpaid (credits h) x)) (λ x p. open_unpaid (credits h) x p.1)
-    (items h) (sound h w)
+kept_open : (c : Option Calendar) (h : History) → Lawful c h → kept h ≡ open_items h
+kept_open c h w = keep_same (Sound (charged h)) (is_open (credits h)) (λ x. ltb 0 (unpaid (credits h) x)) (λ x p. open_unpaid (credits h) x p.1)
+    (items h) (sound c h w)
 
-kept_more : (h : History) (e : Event) → Lawful (e ∷ h) → filter (is_open (credits (e ∷ h))) (kept h ++ new h e) ≡ kept (e ∷ h)
-kept_more h e w =
+kept_more : (c : Option Calendar) (h : History) (e : Event) → Lawful c (e ∷ h) → filter (is_open (credits (e ∷ h))) (kept h ++ new h e) ≡ kept (e ∷ h)
+kept_more c h e w =
     let g = is_open (credits (e ∷ h)) in
     filter-append g (kept h) (new h e)
-    ∙ (ap (λ ys. ys ++ filter g (new h e)) (keep_keep (Sound (charged h)) (is_open (credits h)) g (still h e w) (items h) (sound h w.1))
+    ∙ (ap (λ ys. ys ++ filter g (new h e)) (keep_keep (Sound (charged h)) (is_open (credits h)) g (still c h e w) (items h) (sound c h w.1))
     ∙ (sym (filter-append g (items h) (new h e))
     ∙ ap (filter g) (sym (items_more h e))))
 
 -- 64 places are enough: row 18
-room_more : (h : History) (e : Event) → Lawful (e ∷ h) → length (kept h) ≤ most_open → length (kept (e ∷ h)) ≤ most_open
-room_more h e w r =
-    let m = ap length (kept_more h e w) in
+room_more : (c : Option Calendar) (h : History) (e : Event) → Lawful c (e ∷ h) → length (kept h) ≤ most_open → length (kept (e ∷ h)) ≤ most_open
+room_more c h e w r =
+    let m = ap length (kept_more c h e w) in
     let k = length-filter (is_open (credits (e ∷ h))) (kept h ++ new h e) in
     let s = count_by-le-length (is_open (credits (e ∷ h))) (kept h ++ new h e) in
     let a = length-append (kept h) (new h e) in
-    let n : length (kept h) ≡ length (open_items h) = ap length (kept_open h w.1) in
+    let n : length (kept h) ≡ length (open_items h) = ap length (kept_open c h w.1) in
     on (charges e)
     (λ q.
     let u = leb-false most_open (length (open_items h)) (rw q at (passed h e w.0).allowed.r18) in
@@ -121,24 +123,24 @@ record Joined (h : History) (e : Event) (l : Ledger) : Type 0 where
   placed : Placed (items (e ∷ h)) l.ring
   open_are : open_of l ≡ kept h ++ new h e
 
-joins : (h : History) (e : Event) (l : Ledger) → Lawful (e ∷ h) → Stored h l → Joined h e (cond (charges e) (entered_in l e.day (charge h e)) l)
-joins h e l w s =
+joins : (c : Option Calendar) (h : History) (e : Event) (l : Ledger) → Lawful c (e ∷ h) → Stored h l → Joined h e (cond (charges e) (entered_in l e.day (charge h e)) l)
+joins c h e l w s =
     let p = passed h e w.0 in
     on (charges e)
     (λ q.
     let u = leb-false most_open (length (open_items h)) (rw q at p.allowed.r18) in
-    let n : l.made - l.closed < most_open = omega (arith, kept_count l, ap length s.open_are, ap length (kept_open h w.1)) in
-    let c = s.charged_is in
+    let n : l.made - l.closed < most_open = omega (arith, kept_count l, ap length s.open_are, ap length (kept_open c h w.1)) in
+    let z = s.charged_is in
     rw q
     (record {
       formed = enter_formed l s.formed e.day (charge h e) n (charge_above h e p.fields_fit q);
-      charged_is = ap (λ n. n + charge h e) c;
+      charged_is = ap (λ n. n + charge h e) z;
       credited_is = s.credited_is;
       paid_is = s.paid_is;
       made_is = rw (q, length-append) (omega (arith, s.made_is));
-      placed = rw (q, s.made_is, c)
+      placed = rw (q, s.made_is, z)
           (placed_more (items h) l.ring s.placed (record { day = e.day; amount = charge h e; upto = charged h + charge h e }));
-      open_are = enter_open l s.formed e.day (charge h e) n ∙ rw (q, s.open_are, c);
+      open_are = enter_open l s.formed e.day (charge h e) n ∙ rw (q, s.open_are, z);
     }))
     (λ q.
     let z : charge h e ≡ 0 = no_charge (charged h) (credits h) (named_payment h e) e q in
@@ -154,9 +156,9 @@ joins h e l w s =
     }))
 
 -- then it is settled
-settles : (h : History) (e : Event) (l : Ledger) → Lawful (e ∷ h) → Joined h e l
+settles : (c : Option Calendar) (h : History) (e : Event) (l : Ledger) → Lawful c (e ∷ h) → Joined h e l
     → Stored (e ∷ h) (settled (paid_from (credited_in l (credit_by (held h) e)) (amount_if payout e)))
-settles h e l w s =
+settles c h e l w s =
     let m = paid_from (credited_in l (credit_by (held h) e)) (amount_if payout e) in
     let f : Formed m = record { size = s.formed.size; closed_le = s.formed.closed_le; chain = s.formed.chain } in
     let d : m.credited ≡ credited (e ∷ h) = omega (arith, s.credited_is, credited_step e h) in
@@ -169,12 +171,12 @@ settles h e l w s =
       paid_is = o;
       made_is = s.made_is;
       placed = s.placed;
-      open_are = settle_open m f.closed_le f.chain ∙ rw (p, s.open_are) (kept_more h e w);
+      open_are = settle_open m f.closed_le f.chain ∙ rw (p, s.open_are) (kept_more c h e w);
     }
 
-stored : (h : History) → Lawful h → Stored h (ledger_of h)
+stored : (c : Option Calendar) (h : History) → Lawful c h → Stored h (ledger_of h)
 unfolding ledger_of ledger_after
-stored [] w =
+stored c [] w =
     record {
       formed = record { size = refl; closed_le = zero-le; chain = refl };
       charged_is = refl;
@@ -184,26 +186,26 @@ stored [] w =
       placed = none_placed;
       open_are = refl;
     }
-stored (e ∷ h) w = settles h e _ w (joins h e (ledger_of h) w (stored h w.1))
+stored c (e ∷ h) w = settles c h e _ w (joins c h e (ledger_of h) w (stored c h w.1))
 
 -- and it is settled
-pub is_settled_lem : (h : History) → Lawful h → settled (ledger_of h) ≡ ledger_of h
+pub is_settled_lem : (c : Option Calendar) (h : History) → Lawful c h → settled (ledger_of h) ≡ ledger_of h
 unfolding ledger_of ledger_after
-is_settled_lem [] w = refl
-is_settled_lem (e ∷ h) w = settle_twice _ (joins h e (ledger_of h) w (stored h w.1)).formed.closed_le
+is_settled_lem c [] w = refl
+is_settled_lem c (e ∷ h) w = settle_twice _ (joins c h e (ledger_of h) w (stored c h w.1)).formed.closed_le
 
 -- every charge is 1 or more, so there are no more items than cents
-items_count : (h : History) → Lawful h → length (items h) ≤ charged h
-items_count [] w = zero-le
-items_count (e ∷ h) w =
-    let ih = items_count h w.1 in
+items_count : (c : Option Calendar) (h : History) → Lawful c h → length (items h) ≤ charged h
+items_count c [] w = zero-le
+items_count c (e ∷ h) w =
+    let ih = items_count c h w.1 in
     on (charges e)
     (λ q. rw (q, length-append) (omega (arith, charge_above h e (passed h e w.0).fields_fit q)))
     (λ q. rw q (omega arith))
 
-room_kept : (h : History) → Lawful h → length (kept h) ≤ most_open
-room_kept [] w = zero-le
-room_kept (e ∷ h) w = room_more h e w (room_kept h w.1)
+room_kept : (c : Option Calendar) (h : History) → Lawful c h → length (kept h) ≤ most_open
+room_kept c [] w = zero-le
+room_kept c (e ∷ h) w = room_more c h e w (room_kept c h w.1)
 
 -- ---- the law
 closed_due : (p t : ℕ) (x : Item) → is_open p x ≡ false → due p t x ≡ 0
@@ -238,36 +240,36 @@ abbrev pub LedgerLaw : History → Type 0
 LedgerLaw h = KeepsLedger h (ledger_of h)
 
 -- the arrears never come near the largest number
-arrears_law : (h : History) → Lawful h → Stored h (ledger_of h) → credits_by (ledger_of h) ≡ credits h → (t : ℕ) → arrears_by (ledger_of h) t ≡ arrears h t
-arrears_law h w s p t =
+arrears_law : (c : Option Calendar) (h : History) → Lawful c h → Stored h (ledger_of h) → credits_by (ledger_of h) ≡ credits h → (t : ℕ) → arrears_by (ledger_of h) t ≡ arrears h t
+arrears_law c h w s p t =
     let l = ledger_of h in
     let n = sum_of (due (credits_by l) t) (open_of l) in
     let z : n ≡ arrears h t = rw (p, s.open_are) (sum_keep (due (credits h) t) (is_open (credits h)) (closed_due (credits h) t) (items h)) in
     let m = due_le (credits_by l) t (l.made - l.closed) l.closed l.below l.charged l.ring s.formed.chain in
-    let y : min n largest ≡ n = omega (arith, m, s.charged_is, charged_limit h w) in
+    let y : min n largest ≡ n = omega (arith, m, s.charged_is, charged_limit c h w) in
     y ∙ z
 
-ledger_ok_lem : (h : History) → Lawful h → Stored h (ledger_of h) → (ledger_of h).made - (ledger_of h).closed ≤ most_open → ledger_ok (ledger_of h) ≡ true
-ledger_ok_lem h w s n =
+ledger_ok_lem : (c : Option Calendar) (h : History) → Lawful c h → Stored h (ledger_of h) → (ledger_of h).made - (ledger_of h).closed ≤ most_open → ledger_ok (ledger_of h) ≡ true
+ledger_ok_lem c h w s n =
     let l = ledger_of h in
     rw (
-      le-leb l.charged limit (omega (arith, s.charged_is, charged_limit h w)),
-      le-leb l.credited limit (omega (arith, s.credited_is, credited_limit h w)),
-      le-leb l.paid_out l.credited (omega (arith, s.credited_is, s.paid_is, payouts h w)),
-      le-leb l.made l.charged (omega (arith, s.charged_is, s.made_is, items_count h w)),
+      le-leb l.charged limit (omega (arith, s.charged_is, charged_limit c h w)),
+      le-leb l.credited limit (omega (arith, s.credited_is, credited_limit c h w)),
+      le-leb l.paid_out l.credited (omega (arith, s.credited_is, s.paid_is, payouts c h w)),
+      le-leb l.made l.charged (omega (arith, s.charged_is, s.made_is, items_count c h w)),
       le-leb l.closed l.made s.formed.closed_le,
       le-leb (l.made - l.closed) most_open n,
     )
-    (settled_still l (is_settled_lem h w))
+    (settled_still l (is_settled_lem c h w))
 
-pub ledger_law : (h : History) → Lawful h → LedgerLaw h
-ledger_law h w =
+pub ledger_law : (c : Option Calendar) (h : History) → Lawful c h → LedgerLaw h
+ledger_law c h w =
     let l = ledger_of h in
-    let s = stored h w in
+    let s = stored c h w in
     let p : credits_by l ≡ credits h = omega (arith, s.credited_is, s.paid_is) in
-    let o = s.open_are ∙ kept_open h w in
+    let o = s.open_are ∙ kept_open c h w in
     let n : l.made - l.closed ≡ length (open_items h) = sym (kept_count l) ∙ ap length o in
-    let r : length (open_items h) ≤ most_open = rw (sym (kept_open h w)) (room_kept h w) in
+    let r : length (open_items h) ≤ most_open = rw (sym (kept_open c h w)) (room_kept c h w) in
     let b = chain_sum (l.made - l.closed) l.closed l.below l.charged l.ring s.formed.chain in
     record {
       charged_is = s.charged_is;
@@ -277,13 +279,13 @@ ledger_law h w =
       owed_is = rw (s.charged_is, p);
       open_are = o;
       count_is = n;
-      arrears_are = arrears_law h w s p;
+      arrears_are = arrears_law c h w s p;
       made_is = s.made_is;
       closed_is = omega (arith, n, s.made_is, s.formed.closed_le);
       below_is = rw (sym o) (b ∙ s.charged_is);
       size = s.formed.size;
       placed = s.placed;
-      passes = ledger_ok_lem h w s (omega (arith, n, r));
+      passes = ledger_ok_lem c h w s (omega (arith, n, r));
     }
 
 -- ---- what is closed stays so

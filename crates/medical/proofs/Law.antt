@@ -9,6 +9,8 @@ use lib.ListN.{get_or}
 use borrow.Author.Tests.{le-leb, le-ltb, eqb-true}
 use Rattle.basics.proofs.Cases.{on}
 use Rattle.std.proofs.lemmas.Bool.{cond_both}
+use Rattle.std.specs.Prelude.{Option}
+use Rattle.rules.specs.declared.Calendar.{Calendar}
 use Rattle.rules.specs.declared.Event.{Event}
 use Rattle.rules.specs.Kinds.{certificate, approval}
 use Rattle.rules.specs.Limits.{final_day, certificate_days, approval_days}
@@ -48,7 +50,7 @@ approved_is (e ∷ h) t s l =
 
 -- ---- the test
 -- the end that an accepted event of kind k sets, by the largest amount of the kind
-end_in : (k : ℕ) (h : History) (e : Event) → Passed h e → cond (is k e) (e.day + e.amount) 0 ≤ final_day + (get_or fields k unknown).amount_to
+end_in : {c : Option Calendar} (k : ℕ) (h : History) (e : Event) → Passed c h e → cond (is k e) (e.day + e.amount) 0 ≤ final_day + (get_or fields k unknown).amount_to
 end_in k h e p =
     cond_both (is k e) (e.day + e.amount) 0 (λ n. n ≤ final_day + (get_or fields k unknown).amount_to)
     (λ q. omega (arith, p.in_time, (ranged k e p.fields_fit (eqb-true e.kind k q)).amount_high))
@@ -58,12 +60,12 @@ record Ends (m : Medical) : Type 0 where
   certified_le : m.certified_to ≤ final_day + certificate_days
   approved_le : m.approved_to ≤ final_day + approval_days
 
-ends : (h : History) → Lawful h → Ends (medical_of h)
+ends : (c : Option Calendar) (h : History) → Lawful c h → Ends (medical_of h)
 unfolding medical_of
-ends [] w = grind arith
-ends (e ∷ h) w =
-    let k = ends h w.1 in
-    let c = end_in certificate h e (passed h e w.0) in
+ends c [] w = grind arith
+ends c (e ∷ h) w =
+    let k = ends c h w.1 in
+    let r = end_in certificate h e (passed h e w.0) in
     let a = end_in approval h e (passed h e w.0) in
     record { certified_le = omega arith; approved_le = on (is certificate e) (λ q. rw q zero-le) (λ q. rw q (omega arith)) }
 
@@ -73,11 +75,11 @@ pub record MedicalLaw (h : History) : Type 0 where
   pub approved_is : (t : ℕ) → last_posted h ≤ t → approved_by (medical_of h) t ≡ approved h t
   pub passes : medical_ok (medical_of h) ≡ true
 
-pub medical_law : (h : History) → Lawful h → MedicalLaw h
-medical_law h w =
-    let k = ends h w in
+pub medical_law : (c : Option Calendar) (h : History) → Lawful c h → MedicalLaw h
+medical_law c h w =
+    let k = ends c h w in
     record {
-      certified_is = λ t l. certified_is h t (sorted h w) l;
-      approved_is = λ t l. approved_is h t (sorted h w) l;
+      certified_is = λ t l. certified_is h t (sorted c h w) l;
+      approved_is = λ t l. approved_is h t (sorted c h w) l;
       passes = rw (le-leb _ _ k.certified_le, le-leb _ _ k.approved_le);
     }

@@ -13,6 +13,8 @@ use Rattle.std.proofs.lemmas.Bool.{and_parts}
 use Rattle.std.specs.List.{list_all}
 use Rattle.basics.proofs.Cases.{on, on_eq}
 use Rattle.basics.proofs.Lists.{at_set}
+use Rattle.std.specs.Prelude.{Option}
+use Rattle.rules.specs.declared.Calendar.{Calendar}
 use Rattle.rules.specs.Limits.{limit, last_till, known_receipts}
 use Rattle.rules.specs.Kinds.{payment, returned_payment}
 use Rattle.rules.specs.History.{History, is, within}
@@ -63,11 +65,11 @@ full_length (e ∷ h) =
     on (is payment e) (λ q. rw (q, length-set) ih)
     (λ q. on (is returned_payment e) (λ r. rw (q, r, length-set) ih) (λ r. rw (q, r) ih))
 
-count_is : (till : ℕ) (h : History) → Lawful h → count_by (receipts_of h) till ≡ length (payments till h)
+count_is : (c : Option Calendar) (till : ℕ) (h : History) → Lawful c h → count_by (receipts_of h) till ≡ length (payments till h)
 unfolding receipts_of
-count_is till [] w = grind arith
-count_is till (e ∷ h) w =
-    let ih = count_is till h w.1 in
+count_is c till [] w = grind arith
+count_is c till (e ∷ h) w =
+    let ih = count_is c till h w.1 in
     let counts = (receipts_of h).counts in
     let n = count_by (receipts_of h) e.option + 1 in
     on_eq e.kind payment
@@ -78,12 +80,12 @@ count_is till (e ∷ h) w =
     (λ o y. rw (z, o) (get_or-set_other counts e.option till n 0 (omega arith) ∙ ih)))
     (λ q _. rw q ih)
 
-places : (till : ℕ) (h : History) → Lawful h
+places : (c : Option Calendar) (till : ℕ) (h : History) → Lawful c h
     → Placed till (receipts_of h).recent (payments till h) (length (payments till h)) (returned till h)
 unfolding receipts_of
-places till [] w = grind arith
-places till (e ∷ h) w =
-    let k = places till h w.1 in
+places c till [] w = grind arith
+places c till (e ∷ h) w =
+    let k = places c till h w.1 in
     let ring = (receipts_of h).recent in
     let pays = payments till h in
     let n = length pays in
@@ -91,13 +93,13 @@ places till (e ∷ h) w =
     (λ q z.
     let a = (ranged payment e (passed h e w.0).fields_fit z).option_high in
     on_eq e.option till
-    (λ o y. rw (z, o, y, count_is till h w.1)
-    (next_place till ring pays n (returned till h) k (full_length h) (omega arith) e.amount (not_yet till h w.1 (suc n) (omega arith))))
+    (λ o y. rw (z, o, y, count_is c till h w.1)
+    (next_place till ring pays n (returned till h) k (full_length h) (omega arith) e.amount (not_yet c till h w.1 (suc n) (omega arith))))
     (λ o y. rw (z, o) (other_till till ring pays n (returned till h) k e.option _ e.amount y)))
     (λ q _. on_eq e.kind returned_payment
-    (λ r z. let c = return_known h e (passed h e w.0) z in
+    (λ r z. let m = return_known h e (passed h e w.0) z in
     on_eq e.option till
-    (λ o y. rw (z, o, y) (cleared_place till ring pays n (returned till h) k e.amount (rw y at c.high) (rw y at c.near)))
+    (λ o y. rw (z, o, y) (cleared_place till ring pays n (returned till h) k e.amount (rw y at m.high) (rw y at m.near)))
     (λ o y. rw (z, o) (other_till till ring pays n (returned till h) k e.option _ 0 y)))
     (λ r _. rw (q, r) k))
 
@@ -107,14 +109,14 @@ readings true true x y f = f refl
 readings true false x y f = f refl
 readings false b x y f = refl
 
-payment_is : (till : ℕ) (h : History) → Lawful h → (r : ℕ) → payment_by (receipts_of h) till r ≡ returnable till h r
-payment_is till h w r =
+payment_is : (c : Option Calendar) (till : ℕ) (h : History) → Lawful c h → (r : ℕ) → payment_by (receipts_of h) till r ≡ returnable till h r
+payment_is c till h w r =
     let n = length (payments till h) in
-    rw (count_is till h w)
+    rw (count_is c till h w)
     (readings (within 1 n r && ltb (n - r) known_receipts) (returned till h r) _ _
     (λ t.
     let v = within_true 1 n r (and_parts (within 1 n r) (ltb (n - r) known_receipts) t).0 in
-    places till h w r v.0 v.1 (omega (arith, ltb-true (n - r) known_receipts (and_parts (within 1 n r) (ltb (n - r) known_receipts) t).1))))
+    places c till h w r v.0 v.1 (omega (arith, ltb-true (n - r) known_receipts (and_parts (within 1 n r) (ltb (n - r) known_receipts) t).1))))
 
 -- ---- the law
 pub record ReceiptsLaw (h : History) : Type 0 where
@@ -124,7 +126,7 @@ pub record ReceiptsLaw (h : History) : Type 0 where
   pub size : length (receipts_of h).recent ≡ known_receipts * tills
   pub passes : receipts_ok (receipts_of h) ≡ true
 
--- a list passes where each of its places does
+-- a list passes where each of its places c does
 every : (xs : List ℕ) → ((i : ℕ) → get_or xs i 0 ≤ limit) → list_all (λ n. leb n limit) xs ≡ true
 every [] f = refl
 every (x ∷ xs) f = rw (le-leb x limit (f 0)) (every xs (λ i. f (suc i)))
@@ -134,13 +136,13 @@ one [] p i = zero-le
 one (x ∷ xs) p zero = leb-true x limit (and_parts (leb x limit) (list_all (λ n. leb n limit) xs) p).0
 one (x ∷ xs) p (suc i) = one xs (and_parts (leb x limit) (list_all (λ n. leb n limit) xs) p).1 i
 
-pub receipts_law : (h : History) → Lawful h → ReceiptsLaw h
-receipts_law h w = record {
-  count_is = λ till. count_is till h w;
-  payment_is = λ till r. payment_is till h w r;
+pub receipts_law : (c : Option Calendar) (h : History) → Lawful c h → ReceiptsLaw h
+receipts_law c h w = record {
+  count_is = λ till. count_is c till h w;
+  payment_is = λ till r. payment_is c till h w r;
   counts_size = counts_length h;
   size = full_length h;
-  passes = every (receipts_of h).counts (λ till. rw (count_is till h w) (count_limit till h w));
+  passes = every (receipts_of h).counts (λ till. rw (count_is c till h w) (count_limit c till h w));
 }
 
 -- what the test tells

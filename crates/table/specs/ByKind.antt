@@ -1,4 +1,4 @@
--- The rows that concern a kind, in the order of their numbers: the number of the first that refuses, 0 for none.
+-- The rows that concern a kind, in the order of the table: the number of the first that refuses, 0 for none.
 use Rattle.std.specs.Prelude.{ℕ, ◌+◌, cond, not, ◌&&◌, ◌||◌, leb, ltb, eqb, drop}
 use Rattle.rules.specs.declared.Event.{Event}
 use Rattle.rules.specs.declared.View.{View}
@@ -28,15 +28,15 @@ moved_rows v =
     cond (eqb v.required 0 || not (eqb v.held v.required)) 7
     (cond (not v.earned) 8 (credit_rows v.credited v.held))
 
--- 5, 10: what bars a final notice and a disconnection alike; rest where neither refuses
+-- 5, 24, 10: what bars a final notice and a disconnection alike; rest where none refuses
 abbrev pub collection_rows : View → ℕ → ℕ
-collection_rows v rest = cond (not (is_on v.service)) 5 (cond (ltb v.arrears enough) 10 rest)
+collection_rows v rest = cond (not (is_on v.service)) 5 (cond (not v.in_calendar) 24 (cond (ltb v.arrears enough) 10 rest))
 
--- a final notice: 5, 10, 11, 18, 19
+-- a final notice: 5, 24, 10, 11, 18, 19
 abbrev pub notice_rows : View → ℕ → ℕ
 notice_rows v charge = collection_rows v (cond v.notice_live 11 (item_rows v.open_count v.charged charge))
 
--- a disconnection: 5, 10, 12, 13, 14, 15
+-- a disconnection: 5, 24, 10, 12, 13, 14, 15
 abbrev pub cut_rows : View → ℕ
 cut_rows v =
     collection_rows v

@@ -10,7 +10,7 @@ unfoldable pub looks_at_debt : Event → Bool
 looks_at_debt e = is arrangement e || is final_notice e || is disconnection e || is reconnection e
 
 -- the View without what e's kind does not look at: the payment that it names is for a returned payment, whether the deposit is
--- earned for its move, and notices, calls, certificates and arrangements for the kinds that look at the debt
+-- earned for its move, and notices, the calendar, calls, certificates and arrangements for the kinds that look at the debt
 abbrev pub seen_of : View → Event → View
 seen_of v e =
     record {
@@ -26,6 +26,7 @@ seen_of v e =
       in_force = looks_at_debt e && v.in_force;
       notice_live = looks_at_debt e && v.notice_live;
       notice_in_days = looks_at_debt e && v.notice_in_days;
+      in_calendar = looks_at_debt e && v.in_calendar;
       called = looks_at_debt e && v.called;
       certified = looks_at_debt e && v.certified;
       approved = looks_at_debt e && v.approved;

@@ -1,4 +1,4 @@
-// The rows of one kind, or of a few, asked in the order of their numbers: refused by the first that refuses.
+// The rows of one kind, or of a few, asked in the order of the table: refused by the first that refuses.
 ghost use Rattle.std.specs.Prelude.{◌≡◌, cond, not, ◌-◌, ltb};
 ghost use Rattle.rules.specs.Answer.{answered};
 ghost use Rattle.rules.specs.Service.{is_on};
@@ -54,15 +54,16 @@ pub fn service_row(v: View) -> Result<(), Refusal>
     Refusal::WrongService.when(!v.service.is_on())
 }
 
-// 5: not on; 10: the arrears are too low.
+// 5: not on; 24: the day is not in the calendar; 10: the arrears are too low.
 fn collection_rows(v: View) -> Result<(), Refusal>
     ensures { result ≡ answered (collection_rows v 0) tt }
 {
     service_row(v)?;
+    Refusal::OutsideCalendar.when(!v.in_calendar)?;
     Refusal::LowArrears.when(v.arrears < ENOUGH)
 }
 
-// 5 and 10; 11: a notice is live; then 18 and 19.
+// 5, 24 and 10; 11: a notice is live; then 18 and 19.
 pub fn notice_rows(v: View, charge: u64) -> Result<(), Refusal>
     ensures { result ≡ answered (notice_rows v charge) tt }
 {
@@ -71,7 +72,7 @@ pub fn notice_rows(v: View, charge: u64) -> Result<(), Refusal>
     item_rows(v.open_count, v.charged, charge)
 }
 
-// 5 and 10; 12: no live notice in its days; 13: no call in its days; 14: an arrangement is in force; 15: a certificate that
+// 5, 24 and 10; 12: no live notice in its days; 13: no call in its days; 14: an arrangement is in force; 15: a certificate that
 // no approval covers.
 pub fn cut_rows(v: View) -> Result<(), Refusal>
     ensures { result ≡ answered (cut_rows v) tt }

@@ -1,4 +1,4 @@
-// The table of refusals as code: rows 4 to 19, of a View and an event. Only the rows that concern the event's kind are asked.
+// The table of refusals as code: rows 4 to 19 and 24, of a View and an event. Only the rows that concern the event's kind are asked.
 // What is public takes any View, any event and any sums. Each contract is an equation with a definition, of the rules, or of this crate for
 // the rows of one kind.
 #![tactic(auto)]
@@ -38,7 +38,7 @@ fn row4(v: View, e: Event) -> bool
         && !(e.is(Kind::Payment) || e.is(Kind::ReturnedPayment) || e.is(Kind::Payout))
 }
 
-// 5 to 19, of which each kind has its own; `charge` is the amount of the item that the event makes; 0 where it makes
+// 5 to 19 and 24, of which each kind has its own; `charge` is the amount of the item that the event makes; 0 where it makes
 // none, since no row of such a kind asks for it. A certificate, an approval and a kind that is not known have no rows here.
 #[tactic(auto, unfolding(crate::specs::ByKind::from_row5), using(crate::proofs::Equations::passing, crate::proofs::ByKind::of_unknown))]
 fn from_row5(v: View, e: Event, charge: u64) -> Result<(), Refusal>
@@ -67,7 +67,7 @@ fn from_row5(v: View, e: Event, charge: u64) -> Result<(), Refusal>
     }
 }
 
-// Rows 4 to 19: refused by the first that refuses the event; where none does, the amount of the item that it makes, if it makes one.
+// Rows 4 to 19 and 24: refused by the first that refuses the event; where none does, the amount of the item that it makes, if it makes one.
 #[tactic(auto, unfolding(crate::specs::ByKind::from_row5, rules::specs::Table::refusal_by), using(amounts::proofs::Equations::item_amount))]
 pub fn check(v: View, e: Event) -> Result<Option<u64>, Refusal>
     ensures { result ≡ answered (refusal_by v e) (then_some (charges e) (min (charge_of v e) largest)) }
