@@ -6,7 +6,7 @@ use mathlib.Core.List.{List, [], ◌∷◌}
 use native.Mathlib.Omega.{arith}
 use lib.Dec.{ltb, eqb}
 use lib.ListN.{length}
-use borrow.Author.Tests.{eqb-true, eqb-false, eq-eqb}
+use borrow.Author.Tests.{eqb-true, eqb-false, eq-eqb, ne_eqb}
 use Rattle.std.proofs.lemmas.Bool.{and_parts}
 use Rattle.basics.proofs.Cases.{on, links}
 use Rattle.rules.specs.declared.Event.{Event}
@@ -54,6 +54,10 @@ module _ (m : List ℕ) where
   pub passes_yes : length m ≡ account_size → state_ok (state_on m) ≡ passes m
   unfolding passes
   passes_yes l = rw (eq-eqb (length m) account_size l)
+
+  pub passes_no : (length m ≡ account_size → ⊥) → false ≡ passes m
+  unfolding passes
+  passes_no f = rw (ne_eqb (length m) account_size f)
 
   pub passed_size : passes m ≡ true → length m ≡ account_size
   unfolding passes

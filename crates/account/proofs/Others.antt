@@ -32,6 +32,7 @@ ringed_applied s e v r =
           on (is payment e) (λ q. rw (q, length-set) r.receipts_ring)
           (λ q. on (is returned_payment e) (λ p. rw (q, p, length-set) r.receipts_ring) (λ p. rw (q, p) r.receipts_ring));
       ledger_ring = on (charges e) (λ q. rw (q, length-set, length-set) r.ledger_ring) (λ q. rw q r.ledger_ring);
+      workdays_bits = r.workdays_bits;
     }
 
 ringed_after : (s : State) (e : Event) → Ringed s → Ringed (state_after s e)

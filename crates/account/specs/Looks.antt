@@ -9,6 +9,8 @@ use Rattle.rules.specs.Kinds.{bill, returned_payment, fee, deposit_moved}
 use Rattle.rules.specs.History.{is}
 use Rattle.rules.specs.Money.{charges}
 use Rattle.rules.specs.Table.{charge_of, refusal_by}
+use Rattle.rules.specs.Workdays.{in_calendar}
+use Rattle.workdays.specs.Kept.{calendar_by}
 use Rattle.table.specs.Seen.{looks_at_debt, seen_of}
 use Rattle.collection.specs.Collection.{live_by, in_days_by, called_by}
 use Rattle.deposit.specs.Deposit.{earned_by}
@@ -30,14 +32,15 @@ debts_on s t =
       arrears = arrears_by s.ledger t;
       in_force = in_force_by s.arrangement t;
       notice_live = live_by s.collection.notice t;
-      notice_in_days = in_days_by s.collection.notice t;
+      notice_in_days = in_days_by (calendar_by s.workdays) s.collection.notice t;
+      in_calendar = in_calendar (calendar_by s.workdays) t;
       called = called_by s.collection.calls t;
       certified = certified_by s.medical t;
       approved = approved_by s.medical t;
     }
 
 abbrev pub no_debts : Debts
-no_debts = record { arrears = 0; in_force = false; notice_live = false; notice_in_days = false; called = false; certified = false; approved = false }
+no_debts = record { arrears = 0; in_force = false; notice_live = false; notice_in_days = false; in_calendar = false; called = false; certified = false; approved = false }
 
 abbrev pub debts_for : State → Event → Debts
 debts_for s e = cond (looks_at_debt e) (debts_on s e.day) no_debts
@@ -68,6 +71,7 @@ view_from s d n =
       in_force = d.in_force;
       notice_live = d.notice_live;
       notice_in_days = d.notice_in_days;
+      in_calendar = d.in_calendar;
       called = d.called;
       certified = d.certified;
       approved = d.approved;

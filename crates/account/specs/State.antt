@@ -1,12 +1,14 @@
 -- An account: its parts, the words of memory that it is, the test, and what it becomes when an event is accepted.
-use Rattle.std.specs.Prelude.{ℕ, ◌-◌, ◌≡◌, Bool, ◌&&◌, List, [], ◌∷◌, leb, eqb, length, get_or, replicate}
+use Rattle.std.specs.Prelude.{ℕ, ◌-◌, ◌≡◌, Bool, ◌&&◌, List, [], ◌∷◌, leb, eqb, length, get_or, replicate, ◌++◌, take, Option, Some, None}
 use Rattle.span.specs.Span.{cut, joined}
 use Rattle.rules.specs.declared.Event.{Event}
 use Rattle.rules.specs.declared.View.{View}
+use Rattle.rules.specs.declared.Calendar.{Calendar}
 use Rattle.rules.specs.Limits.{final_day}
 use Rattle.rules.specs.History.{History, last_posted}
 use Rattle.rules.specs.Money.{charges}
 use Rattle.rules.specs.Table.{charge_of, credit_of}
+use Rattle.rules.specs.Workdays.{in_calendar}
 use Rattle.collection.specs.declared.Collection.{Collection}
 use Rattle.collection.specs.Collection.{
   collection_size,
@@ -36,6 +38,7 @@ use Rattle.arrangement.specs.Arrangement.{
   ArrangementFit,
 }
 use Rattle.receipts.specs.Receipts.{Receipts, receipts_size, receipts_on, receipts_words, payment_by, receipts_after, receipts_of, receipts_ok, ReceiptsFit}
+use Rattle.workdays.specs.Kept.{Workdays, workdays_size, workdays_on, workdays_words, workdays_of, calendar_by, workdays_ok}
 use Rattle.ledger.specs.Ledger.{Ledger, ledger_size, ledger_on, ledger_words, credits_by, arrears_by, ledger_after, ledger_of, ledger_ok, LedgerFit}
 
 pub record State : Type 0 where
@@ -49,18 +52,19 @@ pub record State : Type 0 where
   pub arrangement : Arrangement
   pub receipts : Receipts
   pub ledger : Ledger
+  pub workdays : Workdays
 
 -- ---- its words
 -- how many words each part takes, in the order in which they lie
 abbrev pub sizes : List ℕ
-sizes = 1 ∷ 1 ∷ collection_size ∷ deposit_size ∷ medical_size ∷ arrangement_size ∷ receipts_size ∷ ledger_size ∷ []
+sizes = 1 ∷ 1 ∷ collection_size ∷ deposit_size ∷ medical_size ∷ arrangement_size ∷ receipts_size ∷ ledger_size ∷ workdays_size ∷ []
 
 abbrev pub account_size : ℕ
-account_size = 240
+account_size = 274
 
--- the number of this layout: a million and two, so that no day is it, with which an account once began
+-- the number of this layout: a million and three, so that no day is it, with which an account once began
 abbrev pub layout_number : ℕ
-layout_number = 1000002
+layout_number = 1000003
 
 -- the account of these spans
 abbrev pub state_of : List (List ℕ) → State
@@ -74,6 +78,7 @@ state_of cs =
       arrangement = arrangement_on (get_or cs 5 []);
       receipts = receipts_on (get_or cs 6 []);
       ledger = ledger_on (get_or cs 7 []);
+      workdays = workdays_on (get_or cs 8 []);
     }
 
 -- the account that the words m are
@@ -91,19 +96,25 @@ spans_of s =
     ∷ arrangement_words s.arrangement
     ∷ receipts_words s.receipts
     ∷ ledger_words s.ledger
+    ∷ workdays_words s.workdays
     ∷ []
 
 -- the words of an account, every one of them: equal accounts are equal memory
 abbrev pub words_of : State → List ℕ
 words_of s = joined (spans_of s)
 
--- a fresh account, no events, service on, all sums 0: the number of the layout, and zeros
+-- a fresh account, no events, no calendar, service on, all sums 0: the number of the layout, and zeros
 abbrev pub fresh_words : List ℕ
 fresh_words = layout_number ∷ replicate (account_size - 1) 0
 
--- the account that a history makes: each part fed with the rules' values, none with another part's
-abbrev pub account_of : History → State
-account_of h =
+-- an account that is begun: without a calendar a fresh one, else the same with the calendar in its last words
+abbrev pub begun_words : Option Calendar → List ℕ
+begun_words None = fresh_words
+begun_words (Some c) = take (account_size - workdays_size) fresh_words ++ workdays_words (workdays_of (Some c))
+
+-- the account that a history makes of one begun with c: each part fed with the rules' values, none with another part's
+abbrev pub account_of : Option Calendar → History → State
+account_of c h =
     record {
       layout = layout_number;
       last = last_posted h;
@@ -113,10 +124,11 @@ account_of h =
       arrangement = arrangement_of h;
       receipts = receipts_of h;
       ledger = ledger_of h;
+      workdays = workdays_of c;
     }
 
 -- ---- the test
--- it is of this layout, and each part passes its own: the money's parts, what is kept on file, the service and the day
+-- it is of this layout, and each part passes its own: the money's parts, what is kept on file, the service, the day and the calendar
 abbrev pub money_ok : State → Bool
 money_ok s = arrangement_ok s.arrangement && receipts_ok s.receipts && ledger_ok s.ledger
 
@@ -124,7 +136,7 @@ abbrev pub file_ok : State → Bool
 file_ok s = deposit_ok s.deposit && medical_ok s.medical
 
 abbrev pub service_ok : State → Bool
-service_ok s = eqb s.layout layout_number && leb s.last final_day && collection_ok s.collection
+service_ok s = eqb s.layout layout_number && leb s.last final_day && collection_ok s.collection && workdays_ok s.workdays
 
 unfoldable pub state_ok : State → Bool
 state_ok s = service_ok s && (file_ok s && money_ok s)
@@ -159,7 +171,8 @@ view s e =
       arrears = arrears_by s.ledger e.day;
       in_force = in_force_by s.arrangement e.day;
       notice_live = live_by s.collection.notice e.day;
-      notice_in_days = in_days_by s.collection.notice e.day;
+      notice_in_days = in_days_by (calendar_by s.workdays) s.collection.notice e.day;
+      in_calendar = in_calendar (calendar_by s.workdays) e.day;
       called = called_by s.collection.calls e.day;
       certified = certified_by s.medical e.day;
       approved = approved_by s.medical e.day;
@@ -178,6 +191,7 @@ with_money s a r l =
       arrangement = a;
       receipts = r;
       ledger = l;
+      workdays = s.workdays;
     }
 
 abbrev pub with_file : State → Deposit → Medical → State
@@ -191,6 +205,7 @@ with_file s d m =
       arrangement = s.arrangement;
       receipts = s.receipts;
       ledger = s.ledger;
+      workdays = s.workdays;
     }
 
 abbrev pub with_service : State → ℕ → Collection → State
@@ -204,6 +219,7 @@ with_service s t c =
       arrangement = s.arrangement;
       receipts = s.receipts;
       ledger = s.ledger;
+      workdays = s.workdays;
     }
 
 -- ---- what it becomes when e is accepted, in three steps

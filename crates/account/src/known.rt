@@ -4,11 +4,13 @@ ghost use Rattle.std.specs.Prelude.{◌≡◌, true, false, MatchResult};
 ghost use Rattle.rules.specs.declared.refusals.Refusal.TheVariants.{NoAccount};
 ghost use Rattle.receipts.specs.Receipts.{receipts_on};
 ghost use Rattle.ledger.specs.Ledger.{ledger_on};
+ghost use Rattle.workdays.specs.Kept.{workdays_on};
 ghost use Rattle.account.specs.State.{state_on, passes as is_account, Fit};
 
 use crate::passes;
 use crate::spans::{
     ARRANGEMENT, COLLECTION, DEPOSIT, LAST, MEDICAL, RECEIPTS, WORDS, ledger_in, receipts_in,
+    workdays_in,
 };
 use arrangement::Arrangement;
 use collection::Collection;
@@ -87,5 +89,11 @@ impl<'a> Known<'a> {
         ensures { ledger_on result.now ≡ (state_on self.entry.words.now).ledger }
     {
         ledger_in(self.words)
+    }
+
+    pub fn workdays(self) -> &'a [u64; workdays::WORDS]
+        ensures { workdays_on result.now ≡ (state_on self.entry.words.now).workdays }
+    {
+        workdays_in(self.words)
     }
 }

@@ -11,19 +11,20 @@ mod step;
 mod ways;
 mod would;
 
-ghost use Rattle.std.specs.Prelude.{◌≡◌};
-ghost use Rattle.account.specs.State.{fresh_words, Fit, passes as is_account};
+ghost use Rattle.std.specs.Prelude.{◌≡◌, Some};
+ghost use Rattle.rules.specs.Workdays.{Taken};
+ghost use Rattle.account.specs.State.{begun_words, fresh_words, Fit, passes as is_account};
 ghost use Rattle.account.specs.Post.{Judges, Leaves, posted};
 
 use known::Known;
 use rules::kinds::Kind;
 use rules::refusals::Refusal;
-use rules::{Answer, Event};
+use rules::{Answer, Calendar, Event};
 pub use spans::WORDS;
-use spans::{LAYOUT, LAYOUT_NUMBER};
+use spans::{LAYOUT, LAYOUT_NUMBER, WORKDAYS};
 pub use would::would_answer;
 
-// An account by value: 1,920 bytes are copied for each event, which takes twice as long as lending them.
+// An account by value: 2,192 bytes are copied for each event, which takes twice as long as lending them.
 #[derive(Clone, Copy)]
 pub struct Account {
     pub memory: [u64; WORDS],
@@ -37,7 +38,7 @@ pub struct Posted {
 }
 
 // Whether memory is an account.
-#[tactic(auto, unfolding(crate::specs::State::passes, crate::specs::State::state_ok))]
+#[tactic(auto, using(crate::proofs::Exits::passes_yes, crate::proofs::Exits::passes_no))]
 pub fn passes(m: &[u64]) -> bool
     ensures { result ≡ is_account m.now }
 {
@@ -50,6 +51,15 @@ pub fn clear(m: &mut [u64; WORDS])
 {
     m.fill(0);
     m[LAYOUT] = LAYOUT_NUMBER;
+}
+
+// The same with a calendar: any first day and any bits are taken, so that the claim speaks of every account that is begun.
+pub fn begin(m: &mut [u64; WORDS], calendar: Calendar)
+    ensures words { m.new ≡ begun_words (Some calendar) }
+    ensures taken { Taken (Some calendar) }
+{
+    clear(m);
+    workdays::begin(&mut m[WORKDAYS..WORDS], calendar);
 }
 
 // An event of any kind. Here and below that the memory is an account is a clause (known.rt says why).
@@ -95,6 +105,16 @@ impl Account {
     {
         let mut memory = [0; WORDS];
         clear(&mut memory);
+        Account { memory }
+    }
+
+    // The same with a calendar.
+    pub fn begin(calendar: Calendar) -> Account
+        ensures words { result.memory ≡ begun_words (Some calendar) }
+        ensures taken { Taken (Some calendar) }
+    {
+        let mut memory = [0; WORDS];
+        begin(&mut memory, calendar);
         Account { memory }
     }
 

@@ -10,7 +10,7 @@ ghost use Rattle.account.specs.Looks.{debts_on, debts_for, money_for, view_from}
 use crate::known::Known;
 use crate::spans::{
     ARRANGEMENT, COLLECTION, DEPOSIT, LAST, LAYOUT, LAYOUT_NUMBER, MEDICAL, RECEIPTS, WORDS,
-    ledger_in, receipts_in,
+    ledger_in, receipts_in, workdays_in,
 };
 use arrangement::Arrangement;
 use collection::Collection;
@@ -29,6 +29,7 @@ pub struct Debts {
     pub in_force: bool,
     pub notice_live: bool,
     pub notice_in_days: bool,
+    pub in_calendar: bool,
     pub called: bool,
     pub certified: bool,
     pub approved: bool,
@@ -53,7 +54,8 @@ fn debts_on(account: Known, t: u64) -> Debts
         arrears: ledger::arrears(account.ledger(), t),
         in_force: account.arrangement().in_force(t),
         notice_live: collection.notice_live(t),
-        notice_in_days: collection.notice_in_days(t),
+        notice_in_days: collection.notice_in_days(account.workdays(), t),
+        in_calendar: workdays::in_calendar(account.workdays(), t),
         called: collection.called(t),
         certified: medical.certified(t),
         approved: medical.approved(t),
@@ -91,7 +93,7 @@ fn money_for(account: Known, e: Event) -> Money
 }
 
 // A View is one flat record, as the definitions speak of it. What is read of the debts and of the money is gathered apart: tried as one
-// function with ..View::default(), whose sixteen fields then want an answer by hand.
+// function with ..View::default(), whose seventeen fields then want an answer by hand.
 fn view_of(service: Service, d: Debts, n: Money) -> View
     ensures { result ≡ view_from service d n }
 {
@@ -109,6 +111,7 @@ fn view_of(service: Service, d: Debts, n: Money) -> View
         in_force: d.in_force,
         notice_live: d.notice_live,
         notice_in_days: d.notice_in_days,
+        in_calendar: d.in_calendar,
         called: d.called,
         certified: d.certified,
         approved: d.approved,
@@ -151,5 +154,6 @@ pub fn ok(m: &[u64; WORDS]) -> bool
     m[LAYOUT] == LAYOUT_NUMBER
         && m[LAST] <= FINAL_DAY
         && Collection::load(&m[COLLECTION..DEPOSIT]).ok()
+        && workdays::ok(workdays_in(m))
         && file_and_money_ok(m)
 }

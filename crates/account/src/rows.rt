@@ -1,4 +1,4 @@
-// Rows 4 to 19 of the table, asked about an event in memory that is known to be an account, which is left alone.
+// Rows 4 to 19 and 24 of the table, asked about an event in memory that is known to be an account, which is left alone.
 ghost use Rattle.std.specs.Prelude.{◌≡◌};
 ghost use Rattle.rules.specs.Answer.{answered};
 ghost use Rattle.rules.specs.Table.{refusal_by};

@@ -2,6 +2,7 @@
 ghost use Rattle.std.specs.Prelude.{◌≡◌};
 ghost use Rattle.receipts.specs.Receipts.{receipts_on};
 ghost use Rattle.ledger.specs.Ledger.{ledger_on};
+ghost use Rattle.workdays.specs.Kept.{workdays_on};
 ghost use Rattle.account.specs.State.{state_on};
 
 use arrangement::Arrangement;
@@ -28,14 +29,16 @@ pub const RECEIPTS: usize = ARRANGEMENT + Arrangement::WORDS;
 
 pub const LEDGER: usize = RECEIPTS + receipts::WORDS;
 
+pub const WORKDAYS: usize = LEDGER + ledger::WORDS;
+
 // how many words an account has
-pub const WORDS: usize = LEDGER + ledger::WORDS;
+pub const WORDS: usize = WORKDAYS + workdays::WORDS;
 
-// The number of this layout: a million and two. An account once began with a day, and no day is so large. One that is laid out otherwise
+// The number of this layout: a million and three. An account once began with a day, and no day is so large. One that is laid out otherwise
 // has another number.
-pub const LAYOUT_NUMBER: u64 = 1_000_002;
+pub const LAYOUT_NUMBER: u64 = 1_000_003;
 
-// The words of the two parts that are read where they lie, with their length in the type.
+// The words of the three parts that are read where they lie, with their length in the type.
 pub(crate) fn receipts_in(m: &[u64; WORDS]) -> &[u64; receipts::WORDS]
     ensures { receipts_on result.now ≡ (state_on m.now).receipts }
 {
@@ -45,5 +48,11 @@ pub(crate) fn receipts_in(m: &[u64; WORDS]) -> &[u64; receipts::WORDS]
 pub(crate) fn ledger_in(m: &[u64; WORDS]) -> &[u64; ledger::WORDS]
     ensures { ledger_on result.now ≡ (state_on m.now).ledger }
 {
-    m[LEDGER..WORDS].as_array().unwrap()
+    m[LEDGER..WORKDAYS].as_array().unwrap()
+}
+
+pub(crate) fn workdays_in(m: &[u64; WORDS]) -> &[u64; workdays::WORDS]
+    ensures { workdays_on result.now ≡ (state_on m.now).workdays }
+{
+    m[WORKDAYS..WORDS].as_array().unwrap()
 }

@@ -6,7 +6,7 @@ ghost use Rattle.account.specs.Looks.{Became, Passing, Applied};
 
 use crate::rows::Offer;
 use crate::spans::{
-    ARRANGEMENT, COLLECTION, DEPOSIT, LAST, LEDGER, MEDICAL, RECEIPTS, WORDS, ledger_in,
+    ARRANGEMENT, COLLECTION, DEPOSIT, LAST, LEDGER, MEDICAL, RECEIPTS, WORDS, WORKDAYS, ledger_in,
     receipts_in,
 };
 use rules::kinds::Kind;
@@ -20,7 +20,7 @@ fn move_money(m: &mut [u64; WORDS], posted: InRange, offer: Offer)
     let e = posted.event;
     let v = offer.view;
     let credit = amounts::credit(v, e);
-    ledger::step(&mut m[LEDGER..WORDS], e, offer.item, credit);
+    ledger::step(&mut m[LEDGER..WORKDAYS], e, offer.item, credit);
     receipts::step(&mut m[RECEIPTS..LEDGER], posted);
     arrangement::step(&mut m[ARRANGEMENT..RECEIPTS], posted, v.arrears, v.payment);
 }

@@ -12,7 +12,7 @@ ghost use Rattle.account.specs.Post.{Judges};
 ghost use Rattle.account.specs.Looks.{Became, Applied, Free, only_item};
 
 use crate::known::Known;
-use crate::spans::{ARRANGEMENT, LEDGER, RECEIPTS, WORDS, receipts_in};
+use crate::spans::{ARRANGEMENT, LEDGER, RECEIPTS, WORDS, WORKDAYS, receipts_in};
 use crate::step::set_service;
 use rules::kinds::Kind;
 use rules::refusals::Refusal;
@@ -33,7 +33,7 @@ fn take_payment(m: &mut [u64; WORDS], posted: InRange)
     ensures { let e = posted.event in Became m.new (money_after (state_on m.old) e (view (state_on m.old) e)) }
 {
     let e = posted.event;
-    ledger::step(&mut m[LEDGER..WORDS], e, None, e.amount);
+    ledger::step(&mut m[LEDGER..WORKDAYS], e, None, e.amount);
     receipts::step(&mut m[RECEIPTS..LEDGER], posted);
     arrangement::step(&mut m[ARRANGEMENT..RECEIPTS], posted, 0, 0);
 }
@@ -92,7 +92,7 @@ fn charge_item(m: &mut [u64; WORDS], e: Event, charge: u64)
     requires { Free m.old e × (only_item e ≡ true) × (charge ≡ min (charge_of (view (state_on m.old) e) e) largest) }
     ensures { Applied m.old e (view (state_on m.old) e) m.new 0 }
 {
-    ledger::step(&mut m[LEDGER..WORDS], e, Some(charge), 0);
+    ledger::step(&mut m[LEDGER..WORKDAYS], e, Some(charge), 0);
     set_service(m, e);
 }
 
