@@ -8,7 +8,10 @@ use lib.Dec.{eqb}
 use lib.ListN.{length}
 use Rattle.std.proofs.lemmas.List.{map-id}
 use Rattle.basics.proofs.Cases.{on}
+use Rattle.std.specs.Prelude.{Option}
 use Rattle.rules.specs.declared.Event.{Event}
+use Rattle.rules.specs.declared.Calendar.{Calendar}
+use Rattle.rules.specs.Workdays.{Taken}
 use Rattle.std.proofs.Common.{Ok, Err}
 use Rattle.rules.specs.declared.refusals.Refusal.{Refusal}
 use Rattle.rules.specs.Answer.{Answer}
@@ -16,7 +19,7 @@ use Rattle.rules.specs.History.{History}
 use Rattle.rules.specs.Accepted.{refusal, offered, accepted_after, accepted, Lawful, answers_after, cut_on}
 use Rattle.rules.proofs.Lawful.{accepted_lawful, numbers_are, receipts_are, money}
 use Rattle.rules.proofs.Cut.{cut_exact}
-use Rattle.account.specs.State.{state_on, words_of, fresh_words, account_of, passes}
+use Rattle.account.specs.State.{state_on, words_of, begun_words, account_of, passes}
 use Rattle.account.specs.Post.{refusal_at, answer_at, state_after, answer_to, words_after, Leaves}
 use Rattle.account.proofs.Words.{account_whole}
 use Rattle.account.proofs.Exits.{passed_size}
@@ -24,7 +27,7 @@ use Rattle.questions.proofs.Laws.{laws}
 use Rattle.questions.proofs.Told as told
 use Rattle.claim.specs.Run.{run, answers, LeftBy}
 use Rattle.claim.specs.Claim.{accepts, refused_in, ClaimOf, Claim, LeftClaim}
-use Rattle.claim.proofs.Compose.{answer_found, run_same, answers_same, fresh_is}
+use Rattle.claim.proofs.Compose.{answer_found, run_same, answers_same, begun_is}
 
 -- an answer accepts exactly where no number refuses
 accepts_is : (b : Bool) (r : ℕ) (n : Refusal) → accepts (cond {A = Answer} b (Ok r) (Err n)) ≡ b
@@ -32,47 +35,50 @@ accepts_is true r n = refl
 accepts_is false r n = refl
 
 -- an event is refused, or is one more accepted
-refused_count : (h : History) (es : List Event) → refused_in (answers_after h es) + length (accepted_after h es) ≡ length h + length es
-refused_count h [] = omega arith
-refused_count h (e ∷ es) =
-    let ih = refused_count (offered h e) es in
-    on (eqb (refusal h e) 0)
+refused_count : (c : Option Calendar) (h : History) (es : List Event)
+    → refused_in (answers_after c h es) + length (accepted_after c h es) ≡ length h + length es
+refused_count c h [] = omega arith
+refused_count c h (e ∷ es) =
+    let ih = refused_count c (offered c h e) es in
+    on (eqb (refusal c h e) 0)
     (λ q. rw q (omega (arith, rw q at ih)))
     (λ q. rw q (omega (arith, rw q at ih)))
 
 -- of the account that lawful events make
-claim_of : (es : List Event) (h : History) → Lawful h → refused_in (answers_after [] es) + length h ≡ length es
-    → ClaimOf (words_of (account_of h)) (answers_after [] es) es h
-claim_of es h w n =
-    let k = laws h w in
+claim_of : (c : Option Calendar) → Taken c → (es : List Event) (h : History) → Lawful c h
+    → refused_in (answers_after c [] es) + length h ≡ length es
+    → ClaimOf c (words_of (account_of c h)) (answers_after c [] es) es h
+claim_of c t es h w n =
+    let k = laws c t h w in
     record {
       answered = refl;
-      numbered = numbers_are [] es;
-      receipted = receipts_are [] es;
+      numbered = numbers_are c [] es;
+      receipted = receipts_are c [] es;
       refused = n;
-      owing = told.owed_is h k;
-      holding = told.held_is h k;
-      requiring = told.required_is h k;
-      open_days = told.open_days h k;
-      open_parts = told.open_parts h k;
-      counting = told.count_is h k;
-      serving = told.service_is h k;
-      dues = told.arrears_are h k;
-      arranged = told.in_force_is h k;
-      noticed = told.notice_is h k;
-      certificated = told.certified_is h k;
-      money = rw (told.owed_is h k, told.held_is h k) (money h w);
-      would = λ e. answer_found h e w;
-      cuts = λ t p q. ap accepts (answer_found h (cut_on t) w) ∙ (accepts_is (eqb (refusal h (cut_on t)) 0) _ _ ∙ cut_exact h t p q);
+      owing = told.owed_is c h k;
+      holding = told.held_is c h k;
+      requiring = told.required_is c h k;
+      open_days = told.open_days c h k;
+      open_parts = told.open_parts c h k;
+      counting = told.count_is c h k;
+      serving = told.service_is c h k;
+      counted = told.counted_is c h k;
+      dues = told.arrears_are c h k;
+      arranged = told.in_force_is c h k;
+      noticed = told.notice_is c h k;
+      certificated = told.certified_is c h k;
+      money = rw (told.owed_is c h k, told.held_is c h k) (money c h w);
+      would = λ e. answer_found c t h e w;
+      cuts = λ d p q. ap accepts (answer_found c t h (cut_on d) w) ∙ (accepts_is (eqb (refusal c h (cut_on d)) 0) _ _ ∙ cut_exact c h d p q);
       passing = k.passing;
       words = refl;
     }
 
 -- DEMAND 3
-pub demand_3 : (es : List Event) → Claim es
-demand_3 es =
-    rw (fresh_is, run_same [] es tt, answers_same [] es tt)
-    (claim_of es (accepted es) (accepted_lawful es) (refused_count [] es ∙ omega arith))
+pub demand_3 : (c : Option Calendar) (es : List Event) → Claim c es
+demand_3 c es t =
+    rw (begun_is c, run_same c t [] es tt, answers_same c t [] es tt)
+    (claim_of c t es (accepted c es) (accepted_lawful c es) (refused_count c [] es ∙ omega arith))
 
 -- ---- the same of memory that is lent for each posting
 -- each posting is as a contract R says it, which tells the answer by a word: what is left and told is what the same list gives, run
@@ -87,10 +93,10 @@ module _ {S : Type 0} (word : Answer → S) (R : List ℕ → Event → S → Li
       let t = as_run h.0 es said z h.1.1 in
       (t.0 ∙ ap (λ c. run c es) p.1, rw (p.0, t.1, p.1))
 
-pub demand_3_left : (es : List Event) (said : List Answer) (z : List ℕ) → LeftClaim es said z
-demand_3_left es said z h =
-    let t = as_run (λ a. a) Leaves (λ m e s k v. (v.answer_is, v.words_are)) fresh_words es said z h in
-    rw (t.0, t.1, map-id (answers fresh_words es)) (demand_3 es)
+pub demand_3_left : (c : Option Calendar) (es : List Event) (said : List Answer) (z : List ℕ) → LeftClaim c es said z
+demand_3_left c es said z t h =
+    let r = as_run (λ a. a) Leaves (λ m e s k v. (v.answer_is, v.words_are)) (begun_words c) es said z h in
+    rw (r.0, r.1, map-id (answers (begun_words c) es)) (demand_3 c es t)
 
 -- every list can be posted so
 pub any_list : (m : List ℕ) (es : List Event) → LeftBy Leaves m es (answers m es) (run m es)

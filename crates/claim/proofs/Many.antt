@@ -1,14 +1,21 @@
 -- Demand 3 holds of every one of many accounts in one memory.
-use Prim.Native.Nat.{ℕ, zero, suc, ◌+◌, ◌*◌, ◌<◌}
+use Prim.Native.Nat.{ℕ, zero, suc, ◌+◌, ◌-◌, ◌*◌, ◌<◌}
 use mathlib.Core.Path.{◌≡◌, refl, ap, ◌∙◌}
-use mathlib.Core.List.{List, [], ◌∷◌, ◌++◌}
+use mathlib.Core.List.{List, [], ◌∷◌, ◌++◌, map}
 use native.Mathlib.Omega.{arith}
-use lib.ListN.{length, take, drop, replicate, length-append}
+use lib.ListN.{length, get_or, take, drop, length-append}
 use lib.Seq.{take_at, drop-append-add}
 use Rattle.basics.proofs.Cases.{on_eq}
 use Rattle.span.specs.Span.{joined}
+use Rattle.std.specs.Prelude.{Option, Some, None}
+use Rattle.std.specs.List.{All}
+use Rattle.std.proofs.lemmas.List.Elements.{All-head, All-tail}
+use Rattle.rules.specs.declared.Calendar.{Calendar}
+use Rattle.rules.specs.Workdays.{Taken}
 use Rattle.rules.specs.Answer.{Answer}
-use Rattle.account.specs.State.{account_size, fresh_words}
+use Rattle.workdays.specs.Kept.{workdays_size, workdays_words, workdays_of}
+use Rattle.workdays.proofs.Law.{workdays_length}
+use Rattle.account.specs.State.{account_size, fresh_words, begun_words}
 use Rattle.account.specs.Post.{answer_to, words_after}
 use Rattle.account.specs.Many.{account_at}
 use Rattle.account.proofs.Others.{stays_long, this_account, other_account}
@@ -36,26 +43,36 @@ each n all (p ∷ ps) (s ∷ said) z i l h t =
     let w = other_account p.index i all p.event s b e v in
     rw q (r.0 ∙ ap (λ m. run m (events_for i ps)) w, r.1 ∙ ap (λ m. answers m (events_for i ps)) w))
 
--- ---- n fresh accounts, one after another
-fresh_size : length fresh_words ≡ account_size
-fresh_size = refl
+-- ---- fresh accounts, one after another
+begun_size : (c : Option Calendar) → Taken c → length (begun_words c) ≡ account_size
+begun_size None t = refl
+begun_size (Some c) t =
+    length-append (take (account_size - workdays_size) fresh_words) (workdays_words (workdays_of (Some c)))
+    ∙ omega (arith, workdays_length (Some c) t)
 
-begun_size : (n : ℕ) → length (joined (replicate n fresh_words)) ≡ n * account_size
-begun_size zero = refl
-begun_size (suc n) = length-append fresh_words (joined (replicate n fresh_words)) ∙ omega (arith, begun_size n)
+all_size : (cs : List (Option Calendar)) → All Taken cs → length (joined (map begun_words cs)) ≡ length cs * account_size
+all_size [] a = refl
+all_size (c ∷ cs) a =
+    length-append (begun_words c) (joined (map begun_words cs))
+    ∙ omega (arith, begun_size c (All-head Taken c cs a), all_size cs (All-tail Taken c cs a))
 
-fresh_at : (n i : ℕ) → i < n → account_at i (joined (replicate n fresh_words)) ≡ fresh_words
-fresh_at zero i h = absurd (omega arith)
-fresh_at (suc n) zero h = take_at fresh_words (joined (replicate n fresh_words)) account_size fresh_size
-fresh_at (suc n) (suc i) h =
-    let rest = joined (replicate n fresh_words) in
-    let z : suc i * account_size ≡ account_size + i * account_size = omega arith in
-    let past = ap (λ k. drop k (fresh_words ++ rest)) z ∙ drop-append-add fresh_words rest (i * account_size) in
-    ap (take account_size) past ∙ fresh_at n i (omega arith)
+begun_at : (cs : List (Option Calendar)) (i : ℕ) → All Taken cs → i < length cs → account_at i (joined (map begun_words cs)) ≡ begun_words (get_or cs i None)
+begun_at [] i a h = absurd (omega arith)
+begun_at (c ∷ cs) zero a h = take_at (begun_words c) (joined (map begun_words cs)) account_size (begun_size c (All-head Taken c cs a))
+begun_at (c ∷ cs) (suc i) a h =
+    let rest = joined (map begun_words cs) in
+    let z : suc i * account_size ≡ length (begun_words c) + i * account_size = omega (arith, begun_size c (All-head Taken c cs a)) in
+    let past = ap (λ k. drop k (begun_words c ++ rest)) z ∙ drop-append-add (begun_words c) rest (i * account_size) in
+    ap (take account_size) past ∙ begun_at cs i (All-tail Taken c cs a) (omega arith)
+
+taken_at : (cs : List (Option Calendar)) (i : ℕ) → All Taken cs → i < length cs → Taken (get_or cs i None)
+taken_at [] i a h = absurd (omega arith)
+taken_at (c ∷ cs) zero a h = All-head Taken c cs a
+taken_at (c ∷ cs) (suc i) a h = taken_at cs i (All-tail Taken c cs a) (omega arith)
 
 -- DEMAND 3
-pub demand_3_many : (n : ℕ) (ps : List Posting) (said : List Answer) (z : List ℕ) → ManyClaim n ps said z
-demand_3_many n ps said z t i h =
-    let r = each n (joined (replicate n fresh_words)) ps said z i (begun_size n) h t in
-    let f = fresh_at n i h in
-    rw (r.0, r.1, f) (demand_3 (events_for i ps))
+pub demand_3_many : (cs : List (Option Calendar)) (ps : List Posting) (said : List Answer) (z : List ℕ) → ManyClaim cs ps said z
+demand_3_many cs ps said z a t i h =
+    let r = each (length cs) (joined (map begun_words cs)) ps said z i (all_size cs a) h t in
+    let f = begun_at cs i a h in
+    rw (r.0, r.1, f) (demand_3 (get_or cs i None) (events_for i ps) (taken_at cs i a h))

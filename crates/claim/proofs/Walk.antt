@@ -5,6 +5,7 @@ use mathlib.Core.Bool.{Bool, true, false, cond}
 use mathlib.Core.List.{List, [], ◌∷◌, ◌++◌}
 use native.Mathlib.Omega.{arith}
 use lib.ListN.{length}
+use Rattle.std.specs.Prelude.{None}
 use Rattle.rules.specs.declared.Event.{Event}
 use Rattle.rules.specs.Answer.{Answer}
 use Rattle.account.specs.State.{fresh_words, passes, Fit}
@@ -31,17 +32,17 @@ pub record Walked (past : List Event) (m : List ℕ) (r : ℕ) : Type 0 where
 
 module _ (past : List Event) (m : List ℕ) (r : ℕ) (w : Walked past m r) where
   walked_passes : passes m ≡ true
-  walked_passes = rw w.at (demand_3 past).passing
+  walked_passes = rw w.at (demand_3 None past tt).passing
 
   pub walked_fit : Fit m
   walked_fit = passed_fit m walked_passes
 
   -- no more are refused than were posted
   pub few : r ≤ length past
-  few = omega (arith, w.count, (demand_3 past).refused)
+  few = omega (arith, w.count, (demand_3 None past tt).refused)
 
   pub ran : Ran m r past
-  ran = record { words_are = w.at; refused_is = w.count; claim = rw w.at (demand_3 past) }
+  ran = record { words_are = w.at; refused_is = w.count; claim = rw w.at (demand_3 None past tt) }
 
   -- an event is posted as it would be in any memory
   pub walked_leaves : (e : Event) (a : Answer) (k : List ℕ) → length k ≡ length m → Judges m e a k → Leaves m e a k

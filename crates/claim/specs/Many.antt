@@ -1,10 +1,13 @@
 -- DEMAND 3 for many accounts that lie in one memory: postings on one or another of them, in any order.
-use Rattle.std.specs.Prelude.{ℕ, ◌<◌, ◌≡◌, cond, List, [], ◌∷◌, eqb, replicate}
+use Rattle.std.specs.Prelude.{ℕ, ◌<◌, ◌≡◌, cond, List, [], ◌∷◌, eqb, map, length, get_or, Option, None}
+use Rattle.std.specs.List.{All}
 use Rattle.span.specs.Span.{joined}
 use Rattle.rules.specs.declared.Event.{Event}
+use Rattle.rules.specs.declared.Calendar.{Calendar}
+use Rattle.rules.specs.Workdays.{Taken}
 use Rattle.rules.specs.Answer.{Answer}
 use Rattle.rules.specs.Accepted.{accepted}
-use Rattle.account.specs.State.{fresh_words}
+use Rattle.account.specs.State.{begun_words}
 use Rattle.account.specs.Many.{account_at, LeavesAt}
 use Rattle.claim.specs.Claim.{ClaimOf}
 
@@ -30,8 +33,11 @@ LeftAt all [] (s ∷ said) z = ⊥
 LeftAt all (p ∷ ps) [] z = ⊥
 LeftAt all (p ∷ ps) (s ∷ said) z = (b : List ℕ) × (LeavesAt p.index all p.event s b × LeftAt b ps said z)
 
--- n fresh accounts at first, one after another: of each of them the claim holds, by the events for it alone
-abbrev pub ManyClaim : ℕ → List Posting → List Answer → List ℕ → Type 0
-ManyClaim n ps said z =
-    LeftAt (joined (replicate n fresh_words)) ps said z
-    → (i : ℕ) → i < n → ClaimOf (account_at i z) (answers_for i ps said) (events_for i ps) (accepted (events_for i ps))
+-- fresh accounts at first, one after another, begun with the calendars cs or with none: of each of them the claim holds, by its calendar and
+-- the events for it alone
+abbrev pub ManyClaim : List (Option Calendar) → List Posting → List Answer → List ℕ → Type 0
+ManyClaim cs ps said z =
+    All Taken cs
+    → LeftAt (joined (map begun_words cs)) ps said z
+    → (i : ℕ) → i < length cs
+    → ClaimOf (get_or cs i None) (account_at i z) (answers_for i ps said) (events_for i ps) (accepted (get_or cs i None) (events_for i ps))

@@ -1,10 +1,13 @@
--- DEMAND 3 for a lent account: a list posted on it one event at a time, each on the account that the posting before left.
-use Rattle.std.specs.Prelude.{◌≡◌, List}
+-- DEMAND 3 for a lent account, begun with a calendar or with none: a list posted on it one event at a time, each on the account that the
+-- posting before left.
+use Rattle.std.specs.Prelude.{◌≡◌, List, Option}
 use Rattle.rules.specs.declared.Event.{Event}
+use Rattle.rules.specs.declared.Calendar.{Calendar}
+use Rattle.rules.specs.Workdays.{Taken}
 use Rattle.rules.specs.Answer.{Answer}
 use Rattle.rules.specs.Accepted.{accepted}
 use Rattle.account.specs.declared.Account.{Account}
-use Rattle.account.specs.State.{fresh_words}
+use Rattle.account.specs.State.{begun_words}
 use Rattle.account.specs.Post.{posted}
 use Rattle.claim.specs.Run.{LeftBy}
 use Rattle.claim.specs.Claim.{ClaimOf}
@@ -14,9 +17,9 @@ pub record LeavesLent (a : Account) (e : Event) (s : Answer) (z : Account) : Typ
   pub answer_is : s ≡ (posted a e).answer
   pub account_is : z ≡ (posted a e).account
 
-abbrev pub fresh_account : Account
-fresh_account = record { memory = fresh_words }
+abbrev pub begun_account : Option Calendar → Account
+begun_account c = record { memory = begun_words c }
 
 -- whatever list was posted, accepted and refused mixed
-abbrev pub LentClaim : List Event → List Answer → Account → Type 0
-LentClaim es said z = LeftBy LeavesLent fresh_account es said z → ClaimOf z.memory said es (accepted es)
+abbrev pub LentClaim : Option Calendar → List Event → List Answer → Account → Type 0
+LentClaim c es said z = Taken c → LeftBy LeavesLent (begun_account c) es said z → ClaimOf c z.memory said es (accepted c es)

@@ -17,6 +17,7 @@ pub fn post_lent(a: &mut Account, e: Event) -> Answer
 #[cfg(test)]
 mod tests {
     use super::*;
+    use rules::Calendar;
     use rules::kinds::Kind;
     use rules::refusals::Refusal;
 
@@ -47,5 +48,34 @@ mod tests {
         }
         assert_eq!(rt; questions::owed(&kept.memory), 11_075);
         assert_eq!(rt; questions::owed(&lent.memory), 11_075);
+    }
+
+    // With a calendar from day 21 on, of which every day is a working day: a notice of day 20 is outside it.
+    #[test]
+    fn both_forms_begin_with_a_calendar(rt: HostRuntime) {
+        let calendar = Calendar {
+            first: 21,
+            bits: [u64::MAX; 32],
+        };
+        let mut kept = Account::begin(calendar);
+        let mut lent = Account::begin(calendar);
+        for (e, wanted) in [
+            (event(Kind::Bill, 0, 6_000), Ok(0)),
+            (
+                event(Kind::FinalNotice, 20, 0),
+                Err(Refusal::OutsideCalendar),
+            ),
+            (event(Kind::FinalNotice, 21, 0), Ok(0)),
+            (event(Kind::Call, 24, 0), Ok(0)),
+            (event(Kind::Disconnection, 25, 0), Err(Refusal::NoNotice)),
+            (event(Kind::Disconnection, 26, 0), Ok(0)),
+        ] {
+            let posted = kept.post(e);
+            kept = posted.account;
+            assert_eq!(rt; posted.answer, wanted);
+            assert_eq!(rt; post_lent(&mut lent, e), wanted);
+        }
+        assert_eq!(rt; questions::working_days(&kept.memory, 21, 26), Some(5));
+        assert_eq!(rt; questions::working_days(&lent.memory, 21, 26), Some(5));
     }
 }

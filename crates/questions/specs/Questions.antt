@@ -1,6 +1,6 @@
--- What an account answers, of any memory: what is no account owes and holds nothing, has no open items and is closed, and every
--- question for a day is refused with 0.
-use Rattle.std.specs.Prelude.{ℕ, ◌-◌, ◌≡◌, Bool, false, cond, List, [], eqb, ℤ, pos, Result, Err}
+-- What an account answers, of any memory: what is no account owes and holds nothing, has no open items and no calendar and is closed, and
+-- every question for a day is refused with 0.
+use Rattle.std.specs.Prelude.{ℕ, ◌-◌, ◌≡◌, Bool, false, cond, List, [], eqb, ℤ, pos, Result, Err, Option, None}
 use Rattle.std.proofs.Math.IntN.{sub_ℕ}
 use Rattle.rules.specs.declared.Service.{Service}
 use Rattle.rules.specs.declared.Service.TheVariants.{Closed}
@@ -8,7 +8,9 @@ use Rattle.rules.specs.declared.refusals.Refusal.{Refusal}
 use Rattle.rules.specs.declared.refusals.Refusal.TheVariants.{NoAccount}
 use Rattle.std.specs.Result.{result_unwrap_or, is_ok}
 use Rattle.rules.specs.Answer.{answered, number_of}
+use Rattle.rules.specs.Workdays.{counted_by}
 use Rattle.rules.specs.Accepted.{day_rows}
+use Rattle.workdays.specs.Kept.{calendar_by}
 use Rattle.collection.specs.Collection.{service_by, live_by}
 use Rattle.medical.specs.Medical.{certified_by}
 use Rattle.arrangement.specs.Arrangement.{in_force_by}
@@ -43,6 +45,10 @@ open_in m = asked_of m (λ s. open_by s.ledger) []
 
 abbrev pub count_in : List ℕ → ℕ
 count_in m = asked_of m (λ s. s.ledger.made - s.ledger.closed) 0
+
+-- the working days of its calendar among n + 1 to t; none are counted where it has no calendar
+abbrev pub working_days_in : List ℕ → ℕ → ℕ → Option ℕ
+working_days_in m n t = asked_of m (λ s. counted_by (calendar_by s.workdays) n t) None
 
 -- ---- for a day t, refused with 1 or 2 as an event is
 -- the number that refuses a question for t, 0 for none

@@ -6,7 +6,7 @@ mod days;
 
 ghost use Rattle.std.specs.Prelude.{◌≡◌, get_or};
 ghost use Rattle.ledger.specs.Ledger.{no_item};
-ghost use Rattle.questions.specs.Questions.{owed_in, held_in, required_in, service_in, open_in, count_in};
+ghost use Rattle.questions.specs.Questions.{owed_in, held_in, required_in, service_in, open_in, count_in, working_days_in};
 
 use account::known::Known;
 pub use days::{arrears, certified, in_force, notice_live};
@@ -52,4 +52,13 @@ pub fn open_item(m: &[u64], i: usize) -> OpenItem
     ensures { result ≡ get_or (open_in m.now) i no_item }
 {
     Known::of(m).map_or(NO_ITEM, |a| ledger::open_item(a.ledger(), i as u64))
+}
+
+// How many working days of its calendar lie among n + 1 to t, if it has one: what a notice of day n has waited on day t.
+pub fn working_days(m: &[u64], n: u32, t: u32) -> Option<u64>
+    ensures { result ≡ working_days_in m.now n t }
+{
+    Known::of(m).map_or(None, |a| {
+        workdays::working_days(a.workdays(), u64::from(n), u64::from(t))
+    })
 }
