@@ -37,11 +37,11 @@ extern "C" {
 #endif
 
 /*
- * The version of this header, major * 10000 + minor * 100 + patch: 1.3.0. The
+ * The version of this header, major * 10000 + minor * 100 + patch: 1.4.0. The
  * library's own is told by hollupaq_version; where they differ, the header is
  * not of this library.
  */
-#define HOLLUPAQ_VERSION 10300
+#define HOLLUPAQ_VERSION 10400
 
 uint64_t hollupaq_version(void);
 
@@ -50,15 +50,17 @@ uint64_t hollupaq_version(void);
 
 /*
  * An answer from here on is an acceptance, or tells a value; one below it is a
- * refusal, or HOLLUPAQ_TOO_LITTLE of hollupaq_reading.
+ * refusal, or HOLLUPAQ_TOO_LITTLE of hollupaq_reading, or HOLLUPAQ_NO_CALENDAR
+ * of hollupaq_working_days.
  */
 #define HOLLUPAQ_ACCEPTED 256
 
 /*
  * The numbers of the refusals. The rules are asked in the order of their
- * numbers, and the first that refuses an event gives the answer. Where a
- * function says that it returns 0 when it is done, 0 is no refusal, nor is it
- * where hollupaq_reading tells that a sum is too little.
+ * numbers, but for 24, which is asked after 5 and before 10; the first that
+ * refuses an event gives the answer. Where a function says that it returns 0
+ * when it is done, 0 is no refusal, nor is it where hollupaq_reading tells that
+ * a sum is too little, or hollupaq_working_days that there is no calendar.
  */
 enum {
     HOLLUPAQ_REFUSED_NO_ACCOUNT = 0,    /* the memory is no account */
@@ -73,7 +75,7 @@ enum {
     HOLLUPAQ_REFUSED_ARRANGEMENT = 9,   /* no arrears, or one is in force */
     HOLLUPAQ_REFUSED_LOW_ARREARS = 10,  /* arrears are under 50.00 dollars */
     HOLLUPAQ_REFUSED_NOTICE_LIVE = 11,  /* a final notice is live already */
-    HOLLUPAQ_REFUSED_NO_NOTICE = 12,    /* no live notice, 5 to 20 days old */
+    HOLLUPAQ_REFUSED_NO_NOTICE = 12,    /* no live notice that waited enough */
     HOLLUPAQ_REFUSED_NO_CALL = 13,      /* no call on the three days before */
     HOLLUPAQ_REFUSED_IN_FORCE = 14,     /* a payment arrangement is in force */
     HOLLUPAQ_REFUSED_CERTIFICATE = 15,  /* certificate live and not covered */
@@ -84,7 +86,8 @@ enum {
     HOLLUPAQ_REFUSED_BOOK = 20,         /* length, header or table is wrong */
     HOLLUPAQ_REFUSED_RECORD = 21,       /* unknown kind or spare bytes not 0 */
     HOLLUPAQ_REFUSED_TOO_SHORT = 22,    /* the memory lent is too short */
-    HOLLUPAQ_REFUSED_READING = 23       /* no such class, or too much usage */
+    HOLLUPAQ_REFUSED_READING = 23,      /* no such class, or too much usage */
+    HOLLUPAQ_REFUSED_CALENDAR = 24      /* day outside the account's calendar */
 };
 
 /* Service. A closed account is neither on nor off. */
@@ -121,10 +124,10 @@ enum {
 #define HOLLUPAQ_REPORT_ROOM(accounts) (39 + 113 * (size_t)(accounts))
 
 /*
- * The standing of a book's accounts as text: a header line, then a line for
- * each account with its index from 0, what is owed in cents, the deposit held,
- * the open items, service (on, off, closed) and how many events were refused.
- * A book that is not in order gives one line instead, `book refused 20` or
+ * The standing of a book's accounts, which have no calendar, as text: a header
+ * line, then a line for each account with its index from 0, what is owed in
+ * cents, the deposit held, the open items, service (on, off, closed) and how
+ * many events were refused. A book that is not in order gives one line instead, `book refused 20` or
  * `book refused 21`. The text ends with a line feed and not with a zero byte.
  *
  *   book, book_len   the bytes of the book
@@ -212,26 +215,27 @@ uint64_t hollupaq_book_write(const uint32_t *counts, size_t counts_len,
                              uint8_t *out, size_t out_len);
 
 /* How many words of 64 bits an account takes. */
-#define HOLLUPAQ_WORDS 240
+#define HOLLUPAQ_WORDS 274
 
 /*
  * The first word of every account: a million and the number of the layout. It
  * is above every day, with which accounts began before they had this word.
  */
-#define HOLLUPAQ_LAYOUT 1000002
+#define HOLLUPAQ_LAYOUT 1000003
 
 /*
  * An account is HOLLUPAQ_WORDS words in the caller's memory,
  *
  *   uint64_t account[HOLLUPAQ_WORDS];
  *
- * lent to each call as a pointer and a length in words. Only hollupaq_fresh
- * makes one, and only hollupaq_post and hollupaq_post_at change it: what the
- * words hold is the library's own business, and nobody else writes into them.
- * Every word is set, and by the accepted events alone: accounts to which the
- * same events were posted are equal words.
+ * lent to each call as a pointer and a length in words. Only hollupaq_fresh and
+ * hollupaq_begin make one, and only hollupaq_post and hollupaq_post_at change
+ * it: what the words hold is the library's own business, and nobody else writes
+ * into them. Every word is set, by the calendar and the accepted events alone:
+ * accounts begun alike, to which the same events were posted, are equal words.
  *
- * Any words may be lent, and every call but hollupaq_fresh tests them first.
+ * Any words may be lent, and every call tests them first, but for hollupaq_fresh
+ * and hollupaq_begin.
  * Memory of another length or another layout, or whose words fail the test, is
  * no account, and is left alone. Not all words that the library did not leave
  * so fail it; what is said of such words means nothing, but does no harm.
@@ -241,7 +245,8 @@ uint64_t hollupaq_book_write(const uint32_t *counts, size_t counts_len,
  * reads it back, on a machine of the same byte order. The book is the record:
  * accounts that were kept by another layout are refused and not misread, and
  * are rebuilt by posting the book's events again. hollupaq_book_read gives
- * them, and the same events make the same account.
+ * them, and the same events make the same account. A book holds no calendar: an
+ * account that had one is begun with it again.
  */
 
 /*
@@ -257,6 +262,30 @@ uint64_t hollupaq_words(void);
  */
 uint8_t hollupaq_fresh(uint64_t *account, size_t words);
 
+/* The days of a calendar, and how many words of 64 bits they take. */
+#define HOLLUPAQ_CALENDAR_DAYS 2048
+#define HOLLUPAQ_CALENDAR_WORDS 32
+
+/*
+ * Makes the memory an account without events that has a calendar: the 2,048
+ * days from `first` on, a bit for each, in order of days, the lowest bit of the
+ * first word first; a set bit is a working day. Day first + i is a working day
+ * where bit i % 64 of bits[i / 64] is set. Any first day and any bits are taken;
+ * no day after the largest comes round to 0. An account has its calendar for
+ * good.
+ *
+ * With a calendar a disconnection wants at least five working days after the
+ * day of its final notice, in place of five days: the day of the disconnection
+ * is counted, that of the notice is not. A notice is live for twenty days as
+ * without one. A notice or a disconnection on a day outside the calendar is
+ * refused with HOLLUPAQ_REFUSED_CALENDAR.
+ *
+ * Returns 1 when this is done, and 0, with nothing written, where `words` is
+ * not HOLLUPAQ_WORDS or `bits_len` not HOLLUPAQ_CALENDAR_WORDS.
+ */
+uint8_t hollupaq_begin(uint64_t *account, size_t words, uint32_t first,
+                       const uint64_t *bits, size_t bits_len);
+
 /*
  * Whether memory is an account, 1 or 0: its length is HOLLUPAQ_WORDS, its first
  * word HOLLUPAQ_LAYOUT, and its words pass the account's test.
@@ -268,7 +297,7 @@ uint8_t hollupaq_ok(const uint64_t *account, size_t words);
  *
  * Returns HOLLUPAQ_ACCEPTED and the receipt of a payment (1, 2, ..) added to
  * it, or HOLLUPAQ_ACCEPTED alone for any other event. Returns a number below
- * it where the event is refused: that (1 to 19) of the rule that refuses it, or
+ * it where the event is refused: that (1 to 19, or 24) of the rule, or
  * HOLLUPAQ_REFUSED_NO_ACCOUNT (0) where the memory is no account. Then nothing
  * is written.
  *
@@ -352,6 +381,22 @@ uint64_t hollupaq_notice_live(const uint64_t *account, size_t words,
 uint64_t hollupaq_certified(const uint64_t *account, size_t words,
                             uint32_t day);
 
+/* The answer of hollupaq_working_days where an account has no calendar. */
+#define HOLLUPAQ_NO_CALENDAR 0
+
+/*
+ * The working days of the account's calendar after one day and up to another,
+ * which is counted too: those that a notice of day `after` has waited on day
+ * `to`. A day outside the calendar is none. Both may be any numbers.
+ *
+ * Returns HOLLUPAQ_ACCEPTED and the count added to it, or HOLLUPAQ_NO_CALENDAR
+ * (0) where the account has no calendar or the memory is no account.
+ * hollupaq_accepted says whether there is a count, and hollupaq_told which one:
+ * ask the first as well, since no working days are told as 0 too.
+ */
+uint64_t hollupaq_working_days(const uint64_t *account, size_t words,
+                               uint32_t after, uint32_t to);
+
 /*
  * The bill of a reading: the cents that a customer of a class is charged for
  * so many kilowatt-hours, which is the amount to be posted as HOLLUPAQ_BILL.
@@ -394,8 +439,9 @@ uint64_t hollupaq_bill_price(uint8_t rate_class, uint64_t usage, size_t i);
 uint64_t hollupaq_reading(uint8_t rate_class, uint64_t sum);
 
 /*
- * What an answer tells, the cents of a bill and the usage of a reading too; 0
- * where it is a refusal or HOLLUPAQ_TOO_LITTLE.
+ * What an answer tells, the cents of a bill, the usage of a reading and a count
+ * of working days too; 0 where it is a refusal, HOLLUPAQ_TOO_LITTLE or
+ * HOLLUPAQ_NO_CALENDAR.
  */
 static inline uint64_t hollupaq_told(uint64_t answer)
 {

@@ -9,7 +9,7 @@ use lib.Dec.{leb}
 use lib.IntN.{ℤ}
 use lib.ListN.{length, set, length-map}
 use lib.Seq.{sets}
-use Rattle.std.proofs.Common.{Err}
+use Rattle.std.proofs.Common.{Err, None}
 use Rattle.std.proofs.lemmas.Bool.{and_parts}
 use Rattle.std.proofs.lemmas.List.{map-append}
 use Rattle.basics.proofs.Cases.{on}
@@ -38,25 +38,25 @@ use Rattle.claim.proofs.Walk.{run_more}
 use Rattle.bookpost.specs.BookHistory.{numbers_of, owed_from, history_refusal, ToldHistory}
 
 -- one more event at the end
-answers_more : (h : History) (es : List Event) (e : Event) → answers_after h (es ++ (e ∷ [])) ≡ answers_after h es ++ (answer (accepted_after h es) e ∷ [])
+answers_more : (h : History) (es : List Event) (e : Event) → answers_after None h (es ++ (e ∷ [])) ≡ answers_after None h es ++ (answer None (accepted_after None h es) e ∷ [])
 answers_more h [] e = refl
-answers_more h (x ∷ es) e = ap (λ l. answer h x ∷ l) (answers_more (offered h x) es e)
+answers_more h (x ∷ es) e = ap (λ l. answer None h x ∷ l) (answers_more (offered None h x) es e)
 
 owed_more : (h : History) (es : List Event) (e : Event)
-    → owed_from h (es ++ (e ∷ [])) ≡ owed_from h es ++ (owed (accepted_after h (es ++ (e ∷ []))) ∷ [])
+    → owed_from h (es ++ (e ∷ [])) ≡ owed_from h es ++ (owed (accepted_after None h (es ++ (e ∷ []))) ∷ [])
 owed_more h [] e = refl
-owed_more h (x ∷ es) e = ap (λ l. owed (offered h x) ∷ l) (owed_more (offered h x) es e)
+owed_more h (x ∷ es) e = ap (λ l. owed (offered None h x) ∷ l) (owed_more (offered None h x) es e)
 
-length_answers : (h : History) (es : List Event) → length (answers_after h es) ≡ length es
+length_answers : (h : History) (es : List Event) → length (answers_after None h es) ≡ length es
 length_answers h [] = refl
-length_answers h (e ∷ es) = ap suc (length_answers (offered h e) es)
+length_answers h (e ∷ es) = ap suc (length_answers (offered None h e) es)
 
 length_numbers : (es : List Event) → length (numbers_of es) ≡ length es
-length_numbers es = length-map (answers_by es) number_of ∙ length_answers [] es
+length_numbers es = length-map (answers_by None es) number_of ∙ length_answers [] es
 
 length_owed : (h : History) (es : List Event) → length (owed_from h es) ≡ length es
 length_owed h [] = refl
-length_owed h (e ∷ es) = ap suc (length_owed (offered h e) es)
+length_owed h (e ∷ es) = ap suc (length_owed (offered None h e) es)
 
 -- what is owed after each event of a list that is posted to the memory m
 abbrev owed_run : List ℕ → List Event → List ℤ
@@ -64,13 +64,13 @@ owed_run m [] = []
 owed_run m (e ∷ es) = owed_in (words_after m e) ∷ owed_run (words_after m e) es
 
 -- from the account of any lawful history on, and not of a fresh one alone; for the reader
-pub owed_run_lem : (h : History) (es : List Event) → Lawful h → owed_run (words_of (account_of h)) es ≡ owed_from h es
+pub owed_run_lem : (h : History) (es : List Event) → Lawful None h → owed_run (words_of (account_of None h)) es ≡ owed_from h es
 owed_run_lem h [] w = refl
 owed_run_lem h (e ∷ es) w =
-    let w2 = offered_lawful h e w in
-    let k = laws (offered h e) w2 in
-    ap (λ m. owed_in m ∷ owed_run m es) (run_same h (e ∷ []) w)
-    ∙ (ap (λ x. x ∷ owed_run (words_of (account_of (offered h e))) es) (owed_is (offered h e) k) ∙ ap (λ l. owed (offered h e) ∷ l) (owed_run_lem (offered h e) es w2))
+    let w2 = offered_lawful None h e w in
+    let k = laws None tt (offered None h e) w2 in
+    ap (λ m. owed_in m ∷ owed_run m es) (run_same None tt h (e ∷ []) w)
+    ∙ (ap (λ x. x ∷ owed_run (words_of (account_of None (offered None h e))) es) (owed_is None (offered None h e) k) ∙ ap (λ l. owed (offered None h e) ∷ l) (owed_run_lem (offered None h e) es w2))
 
 -- these events are posted and noted
 pub record Noted (ns₀ : List ℕ) (os₀ : List ℤ) (es : List Event) (ns : List ℕ) (os : List ℤ) (m : List ℕ) : Type 0 where
@@ -84,13 +84,13 @@ module _ (ns₀ : List ℕ) (os₀ : List ℤ) (es : List Event) (ns : List ℕ)
       → Noted ns₀ os₀ (es ++ (e ∷ [])) (set ns i x) (set os i y) k
   noted_more e s k i x y l p q u v =
       let after : k ≡ run fresh_words (es ++ (e ∷ [])) = q ∙ ap (λ w. words_after w e) t.at ∙ sym (run_more fresh_words es e) in
-      let n : x ≡ number_of (answer (accepted es) e) =
-      u ∙ ap number_of p ∙ ap (λ w. number_of (answer_to w e)) t.at ∙ ap number_of ((demand_3 es).would e) in
-      let d : y ≡ owed (accepted (es ++ (e ∷ []))) = v ∙ ap owed_in after ∙ (demand_3 (es ++ (e ∷ []))).owing in
+      let n : x ≡ number_of (answer None (accepted None es) e) =
+      u ∙ ap number_of p ∙ ap (λ w. number_of (answer_to w e)) t.at ∙ ap number_of ((demand_3 None es tt).would e) in
+      let d : y ≡ owed (accepted None (es ++ (e ∷ []))) = v ∙ ap owed_in after ∙ (demand_3 None (es ++ (e ∷ [])) tt).owing in
       record {
         at = after;
         numbers = sets_then (numbers_of es) (x ∷ []) ns₀ ns 0 i t.numbers (omega (arith, length_numbers es))
-            ∙ ap (sets ns₀ 0) (ap (λ k. numbers_of es ++ (k ∷ [])) n ∙ sym (ap (map number_of) (answers_more [] es e) ∙ map-append number_of (answers_by es) (answer (accepted es) e ∷ [])));
+            ∙ ap (sets ns₀ 0) (ap (λ k. numbers_of es ++ (k ∷ [])) n ∙ sym (ap (map number_of) (answers_more [] es e) ∙ map-append number_of (answers_by None es) (answer None (accepted None es) e ∷ [])));
         owing = sets_then (owed_from [] es) (y ∷ []) os₀ os 0 i t.owing (omega (arith, length_owed [] es))
             ∙ ap (sets os₀ 0) (ap (λ k. owed_from [] es ++ (k ∷ [])) d ∙ sym (owed_more [] es e));
       }

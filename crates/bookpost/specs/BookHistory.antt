@@ -1,5 +1,6 @@
--- The history of one account of a book, event by event: the answer to each and what is owed after it.
-use Rattle.std.specs.Prelude.{ℕ, ◌≡◌, cond, ◌&&◌, List, [], ◌∷◌, map, leb, ℤ, length}
+-- The history of one account of a book, event by event: the answer to each and what is owed after it. In a book there is no place for a calendar:
+-- its accounts wait five days.
+use Rattle.std.specs.Prelude.{ℕ, ◌≡◌, cond, ◌&&◌, List, [], ◌∷◌, map, leb, ℤ, length, None}
 use Rattle.rules.specs.declared.Event.{Event}
 use Rattle.rules.specs.History.{History}
 use Rattle.rules.specs.Money.{owed}
@@ -11,12 +12,12 @@ use Rattle.bookformat.specs.Finding.{book_account}
 
 -- the number of the answer to each event, 0 for accepted
 abbrev pub numbers_of : List Event → List ℕ
-numbers_of es = map number_of (answers_by es)
+numbers_of es = map number_of (answers_by None es)
 
 -- what is owed after each event of a list that follows h
 abbrev pub owed_from : History → List Event → List ℤ
 owed_from h [] = []
-owed_from h (e ∷ es) = owed (offered h e) ∷ owed_from (offered h e) es
+owed_from h (e ∷ es) = owed (offered None h e) ∷ owed_from (offered None h e) es
 
 -- 22, after 20 and 21: one of the two slices is shorter than the account has records
 abbrev pub history_refusal : List ℕ → ℕ → ℕ → ℕ → ℕ

@@ -6,7 +6,9 @@ use native.Mathlib.Omega.{arith}
 use lib.Dec.{eqb}
 use Rattle.basics.proofs.Cases.{on}
 use Rattle.std.proofs.lemmas.Bool.{cond_both}
+use Rattle.std.specs.Prelude.{Option}
 use Rattle.rules.specs.declared.Event.{Event}
+use Rattle.rules.specs.declared.Calendar.{Calendar}
 use Rattle.rules.specs.Kinds.{payment}
 use Rattle.rules.specs.History.{is}
 use Rattle.rules.specs.Money.{arrears}
@@ -16,13 +18,13 @@ use Rattle.rules.specs.Accepted.{accepted}
 use Rattle.rules.proofs.Lawful.{accepted_lawful}
 use Rattle.rules.proofs.Bounds.{arrears_charged, charged_limit}
 use Rattle.receipts.specs.Receipts.{count_by}
-use Rattle.account.specs.State.{State, fresh_words, state_on, passes}
+use Rattle.account.specs.State.{State, begun_words, state_on, passes}
 use Rattle.account.specs.Post.{refusal_at, answer_at, answer_to, words_after}
 use Rattle.account.specs.Many.{account_at, has_account, answer_at_of}
 use Rattle.account.proofs.Exits.{passed_fit}
 use Rattle.claim.specs.Run.{run, answers, LeftBy}
 use Rattle.claim.proofs.Demand.{demand_3, as_run}
-use Rattle.hollupaq.specs.Library.{answer_word, Keeps, KeptClaim}
+use Rattle.hollupaq.specs.Library.{answer_word, count_word, Keeps, KeptClaim}
 use Rattle.hollupaq.proofs.Told.{told_word, said_word}
 
 -- ---- a receipt counts payments, of which there are no more than cents in the limit
@@ -47,12 +49,12 @@ receipt_small_at i all e =
     (λ q. rw q (omega arith))
 
 -- ---- DEMAND 3
-pub demand_3_kept : (es : List Event) (said : List ℕ) (z : List ℕ) → KeptClaim es said z
-demand_3_kept es said z left =
-    let t = as_run answer_word Keeps (λ m e s k v. (v.answer_is, v.words_are)) fresh_words es said z left in
-    let d = demand_3 es in
-    let h = accepted es in
-    let small : (u : ℕ) → arrears h u ≤ limit = λ u. omega (arith, arrears_charged h u, charged_limit h (accepted_lawful es)) in
+pub demand_3_kept : (c : Option Calendar) (es : List Event) (said : List ℕ) (z : List ℕ) → KeptClaim c es said z
+demand_3_kept c es said z taken left =
+    let t = as_run answer_word Keeps (λ m e s k v. (v.answer_is, v.words_are)) (begun_words c) es said z left in
+    let d = demand_3 c es taken in
+    let h = accepted c es in
+    let small : (u : ℕ) → arrears h u ≤ limit = λ u. omega (arith, arrears_charged h u, charged_limit c h (accepted_lawful c es)) in
     record {
       answered = t.1 ∙ ap (map answer_word) d.answered;
       claim = rw (t.0, sym d.answered) d;
@@ -60,6 +62,7 @@ demand_3_kept es said z left =
       arranged = λ u. rw t.0 (said_word _ _ _ (d.arranged u));
       noticed = λ u. rw t.0 (said_word _ _ _ (d.noticed u));
       would = λ e. rw t.0 (ap answer_word (d.would e));
+      counted = λ n u. rw t.0 (ap count_word (d.counted n u));
       certificated = λ u. rw t.0 (said_word _ _ _ (d.certificated u));
     }
 

@@ -6,9 +6,13 @@ use mathlib.Core.List.{List}
 use native.Mathlib.Omega.{arith}
 use lib.Dec.{leb, eqb}
 use lib.ListN.{length}
+use borrow.Author.Tests.{eq-eqb}
 use Rattle.basics.proofs.Cases.{on, on_eq}
-use Rattle.rules.specs.Limits.{limit, most_amount, most_usage}
-use Rattle.std.proofs.Common.{◌<◌, ◌&&◌, Some, Result, Ok, Err}
+use Rattle.rules.specs.declared.Calendar.{Calendar}
+use Rattle.rules.specs.Limits.{calendar_words, limit, most_amount, most_usage}
+use Rattle.rules.specs.Workdays.{working_days, counted_by}
+use Rattle.rules.proofs.Workdays.{counted_few}
+use Rattle.std.proofs.Common.{◌<◌, ◌&&◌, Option, Some, None, Result, Ok, Err}
 use Rattle.rules.specs.declared.refusals.Refusal.{Refusal}
 use Rattle.rules.specs.Refusals.{refusals}
 use Rattle.rules.specs.Answer.{Answer, answered, receipt_of}
@@ -22,8 +26,10 @@ use Rattle.bookformat.specs.Lent.{Columns, write_refusal, WroteBook}
 use Rattle.book.specs.declared.Book.{Book}
 use Rattle.bookformat.proofs.Told.{write_facts, book_in_table, write_in_table}
 use Rattle.bookformat.proofs.Forth.{length_written}
-use Rattle.questions.specs.Questions.{Tells, Says}
-use Rattle.hollupaq.specs.Library.{told, told_yes, answer_word, amount_word, truth_word, reading_word}
+use Rattle.workdays.specs.Kept.{calendar_by}
+use Rattle.account.specs.State.{account_size, begun_words, state_on, passes}
+use Rattle.questions.specs.Questions.{asked_of, working_days_in, Tells, Says}
+use Rattle.hollupaq.specs.Library.{room_for, Begun, told, told_yes, answer_word, amount_word, truth_word, count_word, reading_word}
 use Rattle.hollupaq.specs.Books.{Stored}
 
 told_number : (n v : ℕ) → (n ≡ 0 → ⊥) → n ≡ told n v
@@ -74,6 +80,27 @@ bill_word class usage =
 -- ---- a reading for a budget: its usage is far from wrapping
 pub reading_told : (usage w : ℕ) (r : Reading) → usage ≤ most_usage → Ok (Some usage) ≡ r → w ≡ amount_word (Ok usage) → w ≡ reading_word r
 reading_told usage w r m e a = rw (sym e) (omega (arith, a))
+
+-- ---- an account begun with a calendar, and its working days, of which there are no more than days in a calendar
+pub begun_told : (first : ℕ) (bits kept m k : List ℕ) → length m ≡ account_size → length bits ≡ calendar_words → kept ≡ bits
+    → k ≡ begun_words (Some (record { first = first; bits = kept })) → Begun (Some (record { first = first; bits = bits })) m 1 k
+begun_told first bits kept m k l n p q =
+    let room : room_for (Some (record { first = first; bits = bits })) m ≡ true = rw (eq-eqb (length bits) calendar_words n, eq-eqb (length m) account_size l) in
+    record { answer_is = rw room; words_are = rw room (q ∙ ap (λ b. begun_words (Some (record { first = first; bits = b }))) p) }
+
+counted_told : (c : Option Calendar) (n t x w : ℕ) → Some x ≡ counted_by c n t → w ≡ amount_word (Ok x) → w ≡ 256 + x
+counted_told None n t x w e a = absurd (cc)
+counted_told (Some c) n t x w e a = let f : x ≡ working_days c n t = cc in omega (arith, a, f, counted_few c n t)
+
+pub count_told : (m : List ℕ) (n t x w : ℕ) (r : Option ℕ) → r ≡ working_days_in m n t → r ≡ Some x → w ≡ amount_word (Ok x) → w ≡ count_word (working_days_in m n t)
+unfolding asked_of
+count_told m n t x w r p q a =
+    let e : Some x ≡ working_days_in m n t = sym q ∙ p in
+    let told : w ≡ 256 + x =
+    on (passes m)
+    (λ y. counted_told (calendar_by (state_on m).workdays) n t x w (rw y at e) a)
+    (λ y. let f : Some x ≡ None = rw y at e in absurd (cc)) in
+    told ∙ ap count_word e
 
 -- ---- a book that passed, and what is told of it
 small_word : (n x w : ℕ) (m : Result ℕ Refusal) → m ≡ answered n x → n < length refusals → (n ≡ 0 → x ≤ most_amount) → w ≡ amount_word m → w ≡ told n x

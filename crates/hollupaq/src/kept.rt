@@ -1,6 +1,6 @@
 // An account that a program in another language keeps in its own memory, and posts to one event at a time. Only pointers with
 // lengths, and numbers, cross the boundary.
-ghost use Rattle.std.specs.Prelude.{◌≡◌, cond, get_or};
+ghost use Rattle.std.specs.Prelude.{◌≡◌, Some, None, cond, get_or};
 ghost use Rattle.collection.specs.Collection.{service_number};
 ghost use Rattle.ledger.specs.Ledger.{no_item};
 ghost use Rattle.account.specs.State.{account_size, passes as is_account};
@@ -10,7 +10,7 @@ ghost use Rattle.hollupaq.specs.Library.{answer_word, Keeps, KeepsAt, Begun};
 
 use crate::word_of;
 use account::WORDS;
-use rules::Event;
+use rules::{Calendar, Event};
 
 // How many words an account has, so that a program can hold its header against the library.
 #[unsafe(no_mangle)]
@@ -32,11 +32,29 @@ pub extern "C" fn hollupaq_ok(account: &[u64]) -> u8
 // as it was.
 #[unsafe(no_mangle)]
 pub extern "C" fn hollupaq_fresh(account: &mut [u64]) -> u8
-    ensures { Begun account.old result account.new }
+    ensures { Begun None account.old result account.new }
 {
     match account.as_mut_array() {
         Some(words) => {
             account::clear(words);
+            1
+        }
+        None => 0,
+    }
+}
+
+// The same with a calendar, of any first day and any bits: 1 where the memory is such an account now, 0 where it has not the words of
+// one, or the bits not those of a calendar, and it stays as it was.
+#[unsafe(no_mangle)]
+pub extern "C" fn hollupaq_begin(account: &mut [u64], first: u32, bits: &[u64]) -> u8
+    ensures { Begun (Some (record { first = first; bits = bits.now })) account.old result account.new }
+{
+    let Some(bits) = bits.as_array() else {
+        return 0;
+    };
+    match account.as_mut_array() {
+        Some(words) => {
+            account::begin(words, Calendar { first, bits: *bits });
             1
         }
         None => 0,

@@ -6,6 +6,7 @@ use mathlib.Core.List.{List, ◌++◌, append_assoc}
 use native.Mathlib.Omega.{arith}
 use lib.IntN.{ℤ, sub_ℕ}
 use lib.ListN.{length, length-append}
+use Rattle.std.specs.Prelude.{None}
 use Rattle.std.specs.Fmt.{decimal, signed_decimal}
 use Rattle.std.proofs.lemmas.List.{length_push}
 use Rattle.rules.specs.declared.Event.{Event}
@@ -39,7 +40,7 @@ asked_of_lem : {A : Type 0} (m : List ℕ) (ask : State → A) (none : A) → pa
 unfolding asked_of
 asked_of_lem m ask none q = rw q
 
-pub standing_is : (m : List ℕ) (r : ℕ) (es : List Event) → Ran m r es → Stands (standing_on m r) es (accepted es)
+pub standing_is : (m : List ℕ) (r : ℕ) (es : List Event) → Ran m r es → Stands (standing_on m r) es (accepted None es)
 standing_is m r es s =
     let k = s.claim in
     record {
@@ -57,7 +58,7 @@ standing_line_lem : (i : ℕ) (s : Standing) → standing_line i s ≡ line i (s
 unfolding standing_line
 standing_line_lem i s = regroup (followed (decimal i) 32) (followed (signed_decimal (sub_ℕ s.charged s.credits)) 32) (followed (decimal s.held) 32) (state_part s)
 
-pub line_is : (i : ℕ) (s : Standing) (es : List Event) → Stands s es (accepted es) → standing_line i s ≡ line_of i es
+pub line_is : (i : ℕ) (s : Standing) (es : List Event) → Stands s es (accepted None es) → standing_line i s ≡ line_of i es
 unfolding line_of
 line_is i s es k = standing_line_lem i s ∙ rw (k.owing, k.holding, k.opens, k.serving, k.refusing)
 
@@ -87,24 +88,24 @@ line_length i m h o v r =
     )
 
 -- every number of a lawful history fits 64 bits
-module _ (h : History) (w : Lawful h) where
+module _ (h : History) (w : Lawful None h) where
   owed_short : length (signed_decimal (owed h)) ≤ 21
-  owed_short = difference_short (charged h) (credits h) (omega (arith, charged_limit h w)) (omega (arith, credited_limit h w))
+  owed_short = difference_short (charged h) (credits h) (omega (arith, charged_limit None h w)) (omega (arith, credited_limit None h w))
 
   held_small : held h < 2 ^ 64
-  held_small = omega (arith, held_in_lem h w)
+  held_small = omega (arith, held_in_lem None h w)
 
   open_small : length (open_items h) < 2 ^ 64
   open_small =
-      let k = ledger_law h w in
+      let k = ledger_law None h w in
       omega (arith, k.count_is, (ledger_fit (ledger_of h) k.passes).open_le)
 
 -- no account's line is longer than 113 bytes
 pub line_of_short : (i : ℕ) (es : List Event) → i < 2 ^ 64 → length es < 2 ^ 64 → length (line_of i es) ≤ 113
 unfolding line_of
 line_of_short i es p q =
-    let h = accepted es in
-    let w = accepted_lawful es in
+    let h = accepted None es in
+    let w = accepted_lawful None es in
     omega (
       arith,
       line_length i (owed h) (held h) (length (open_items h)) (service h) (length es - length h),

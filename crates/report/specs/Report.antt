@@ -1,5 +1,5 @@
 -- The text that `standing` prints for a book, by the rules over events alone.
-use Rattle.std.specs.Prelude.{ℕ, zero, suc, ◌+◌, ◌*◌, ◌-◌, ◌≡◌, Bool, cond, List, [], ◌∷◌, ◌++◌, ltb, ℤ, length, drop, Result}
+use Rattle.std.specs.Prelude.{ℕ, zero, suc, ◌+◌, ◌*◌, ◌-◌, ◌≡◌, Bool, cond, List, [], ◌∷◌, ◌++◌, ltb, ℤ, length, drop, Result, None}
 use Rattle.std.specs.Result.{result_unwrap_or}
 use Rattle.std.specs.Fmt.{decimal, signed_decimal}
 use Rattle.basics.specs.Ascii.{ascii}
@@ -29,8 +29,9 @@ line i owes holds opens serves refuses =
 abbrev pub line_by : ℕ → List Event → History → List ℕ
 line_by i es h = line i (owed h) (held h) (length (open_items h)) (service h) (length es - length h)
 
+-- an account of a book has no calendar
 unfoldable pub line_of : ℕ → List Event → List ℕ
-line_of i es = line_by i es (accepted es)
+line_of i es = line_by i es (accepted None es)
 
 -- the lines of the accounts, numbered from i on
 abbrev pub lines_of : ℕ → AccountList → List ℕ

@@ -4,7 +4,7 @@
 
 mod line;
 
-ghost use Rattle.std.specs.Prelude.{◌≡◌, ◌+◌, ◌*◌, ◌≤◌, ltb, length};
+ghost use Rattle.std.specs.Prelude.{◌≡◌, ◌+◌, ◌*◌, ◌≤◌, ltb, length, None};
 ghost use Rattle.rules.specs.Refusals.{refusal_number};
 ghost use Rattle.rules.specs.Accepted.{accepted};
 ghost use Rattle.bookformat.specs.Book.{accounts, decode};
@@ -72,7 +72,7 @@ fn standing_in(account: Known, refused: u64) -> Standing
 // Where account i of a book stands: it is posted in memory of this function's own.
 #[tactic(auto, using(account::proofs::Exits::passed_fit))]
 fn standing_of(book: Book, i: usize) -> Standing
-    ensures { let es = book_account book.entry.bytes.now i in Stands result es (accepted es) }
+    ensures { let es = book_account book.entry.bytes.now i in Stands result es (accepted None es) }
 {
     let mut memory = Account::fresh().memory;
     let refused = run_account(book, i, &mut memory);
