@@ -4,7 +4,7 @@ pub mod bills;
 pub mod books;
 pub mod lent;
 
-pub use account::{Account, Accounts, Answer, OpenItem};
+pub use account::{Account, Accounts, Answer, Calendar, OpenItem};
 
 extern "C" {
     // A slice of the core passes as its pointer and its length.
@@ -22,7 +22,7 @@ extern "C" {
 }
 
 /// The version that these declarations are of, as include/hollupaq.h has it.
-pub const VERSION: u64 = 10_300;
+pub const VERSION: u64 = 10_400;
 
 /// The longest header line of a report, and the longest line of an account.
 const REPORT_HEADER: usize = 39;

@@ -1,12 +1,14 @@
 //! One line beside a refusal: the days that its rule looks at, and what the account's accepted events have there.
 //! That an event is refused, and by which number, is the core's to say; a hint only points at what to look for.
+//! Where an account has a calendar, a line beside a disconnection names the working days that its notice waited.
 //!
 //! What lasts to which day, and what is in arrears, is asked of the core. The days and counts that can't be asked have a
 //! name each, so that a test holds them against the core at all their ends (tools/tests/hints.rs).
-use crate::core::{Account, Answer};
-use crate::dates::{day, LAST_DAY};
+use crate::calendar;
+use crate::core::{Account, Answer, Calendar};
+use crate::dates::{date, day, LAST_DAY};
 use crate::event::Event;
-use crate::words::money;
+use crate::words::{counted, money};
 use std::fmt;
 
 const PAYMENT: u8 = 2;
@@ -14,7 +16,12 @@ const RETURNED_PAYMENT: u8 = 3;
 const ARRANGEMENT: u8 = 11;
 const FINAL_NOTICE: u8 = 12;
 const CALL: u8 = 13;
+const DISCONNECTION: u8 = 14;
 
+/// A final notice waits so many days before a disconnection; with a calendar, so many working days.
+pub const NOTICE_WAITS: u32 = 5;
+/// So many days after its own a final notice is live.
+pub const NOTICE_LASTS: u32 = 20;
 /// So many of the newest payments of each till can be returned.
 pub const RETURNABLE: u64 = 16;
 /// A charge is in arrears so many days after its own.
@@ -46,9 +53,9 @@ impl fmt::Display for Days {
     }
 }
 
-/// A disconnection on day t wants a final notice of these days.
+/// A disconnection on day t wants a final notice of these days; with a calendar one of the first of them or later.
 pub fn notice_days(t: u32) -> Option<Days> {
-    Days::before(t, 5, 20)
+    Days::before(t, NOTICE_WAITS, NOTICE_LASTS)
 }
 
 /// A disconnection on day t wants a call on one of these days.
@@ -76,9 +83,20 @@ pub fn conduct_from(t: u32) -> u32 {
 pub struct Before {
     accepted: Vec<Event>,
     account: Account,
+    /// The first day of its calendar, where it has one.
+    first: Option<u32>,
 }
 
 impl Before {
+    /// An account without events, begun with a calendar or without one.
+    pub fn begun(calendar: Option<&Calendar>) -> Before {
+        Before {
+            accepted: Vec::new(),
+            account: calendar.map_or_else(Account::fresh, Account::begin),
+            first: calendar.map(|calendar| calendar.first),
+        }
+    }
+
     /// Posts an event, and keeps it where the core accepts it.
     pub fn post(&mut self, event: Event) -> Answer {
         let answer = self.account.post(event);
@@ -105,6 +123,15 @@ impl Before {
     }
 }
 
+/// The line under the answer to an event: a hint where it is refused, and the working days that a disconnection counted.
+pub fn under(answer: Answer, event: &Event, before: &Before) -> Option<String> {
+    match answer {
+        Answer::Refused(number) => hint(number, event, before),
+        Answer::Accepted(_) if event.kind == DISCONNECTION => waited(event.day, before),
+        Answer::Accepted(_) => None,
+    }
+}
+
 /// The hint for an event that the number refuses.
 pub fn hint(number: u8, event: &Event, before: &Before) -> Option<String> {
     let t = event.day;
@@ -120,6 +147,9 @@ pub fn hint(number: u8, event: &Event, before: &Before) -> Option<String> {
         14 => arrangement(t, before),
         15 => certificate(t, before),
         17 => Some(required(before)),
+        24 => before
+            .first
+            .map(|first| format!("the calendar has {}", calendar::days(first))),
         _ => None,
     }
 }
@@ -197,13 +227,35 @@ fn live_notice(t: u32, before: &Before) -> Option<String> {
 
 fn notice(t: u32, before: &Before) -> Option<String> {
     let days = notice_days(t)?;
+    let wanted = match before.first {
+        None => format!("{days}, not used and not lapsed"),
+        // One that is live has not waited long enough, or there would be no hint.
+        Some(_) if before.account.notice_live(t) == Ok(true) => {
+            return waited(t, before).map(|told| format!("{told}; {NOTICE_WAITS} are wanted"));
+        }
+        Some(first) => format!(
+            "{} or later, not used and not lapsed, with {NOTICE_WAITS} working days after it up to this day",
+            day(days.first.max(first))
+        ),
+    };
     let last = match before.newest(FINAL_NOTICE) {
         Some(notice) => format!("the last one is of {}", day(notice.day)),
         None => "there was none".to_string(),
     };
-    Some(format!(
-        "it has to be of {days}, not used and not lapsed; {last}"
-    ))
+    Some(format!("it has to be of {wanted}; {last}"))
+}
+
+/// The working days that the newest final notice has waited on day t, each of them asked for; nothing without a calendar.
+fn waited(t: u32, before: &Before) -> Option<String> {
+    let account = &before.account;
+    let notice = before.newest(FINAL_NOTICE)?.day;
+    let count = counted(account.working_days(notice, t)?, "working day");
+    let is_working = |&day: &u32| account.working_days(day - 1, day) == Some(1);
+    let days = (notice + 1..=t).filter(is_working).filter_map(date);
+    let days: Vec<String> = days.collect();
+    let colon = if days.is_empty() { "" } else { ": " };
+    let (notice, days) = (day(notice), days.join(", "));
+    Some(format!("{count} after the notice of {notice}{colon}{days}"))
 }
 
 fn call(t: u32, before: &Before) -> Option<String> {
@@ -245,7 +297,10 @@ mod tests {
 
     /// The account after events that the core accepts.
     fn before(events: &[Event]) -> Before {
-        let mut before = Before::default();
+        after(Before::default(), events)
+    }
+
+    fn after(mut before: Before, events: &[Event]) -> Before {
         for &event in events {
             let answer = before.post(event);
             assert!(
@@ -299,6 +354,74 @@ mod tests {
             cut(10, 25, &[event(1, 6, 4_999)]),
             "nothing is in arrears: no charge up to day 5 (2000-01-06) is unpaid"
         );
+    }
+
+    /// From day 20 on, in which every second day is a working day, the first of them day 21.
+    const CALENDAR: Calendar = Calendar {
+        first: 20,
+        bits: [0xAAAA_AAAA_AAAA_AAAA; 32],
+    };
+
+    #[test]
+    fn a_calendar_shows_the_working_days_that_were_counted() {
+        let before = after(Before::begun(Some(&CALENDAR)), &NOTICED);
+        let told = |answer, t| under(answer, &event(14, t, 0), &before);
+        let refused = Answer::Refused(12);
+        assert_eq!(
+            told(refused, 20).as_deref(),
+            Some("no working days after the notice of day 20 (2000-01-21); 5 are wanted")
+        );
+        assert_eq!(
+            told(refused, 28).as_deref(),
+            Some(
+                "4 working days after the notice of day 20 (2000-01-21): \
+                2000-01-22, 2000-01-24, 2000-01-26, 2000-01-28; 5 are wanted"
+            )
+        );
+        assert_eq!(
+            told(Answer::Accepted(0), 29).as_deref(),
+            Some(
+                "5 working days after the notice of day 20 (2000-01-21): \
+                2000-01-22, 2000-01-24, 2000-01-26, 2000-01-28, 2000-01-30"
+            )
+        );
+        assert_eq!(
+            told(refused, 41).as_deref(),
+            Some(
+                "it has to be of day 21 (2000-01-22) or later, not used and not lapsed, with 5 working days after it up to this day; \
+                the last one is of day 20 (2000-01-21)"
+            )
+        );
+        assert_eq!(
+            told(Answer::Refused(24), 2_068).as_deref(),
+            Some("the calendar has day 20 (2000-01-21) to day 2067 (2005-08-29)")
+        );
+    }
+
+    #[test]
+    fn with_a_calendar_a_notice_that_does_not_live_shows_what_it_has_to_be() {
+        let told = |events: &[Event]| {
+            let before = after(Before::begun(Some(&CALENDAR)), events);
+            hint(12, &event(14, 30, 0), &before).unwrap()
+        };
+        // Day 10 is twenty days back, and the calendar begins on day 20.
+        let wanted = "it has to be of day 20 (2000-01-21) or later, not used and not lapsed, with 5 working days after it up to this day";
+        assert_eq!(told(&[]), format!("{wanted}; there was none"));
+        let last = format!("{wanted}; the last one is of day 20 (2000-01-21)");
+        // It lapses where a payment leaves too little in arrears, and a disconnection uses it up.
+        assert_eq!(told(&noticed(&[event(PAYMENT, 21, 2_000)])), last);
+        let used = [event(CALL, 28, 0), event(DISCONNECTION, 29, 0)];
+        assert_eq!(told(&noticed(&used)), last);
+    }
+
+    #[test]
+    fn without_a_calendar_no_working_days_are_told() {
+        let before = before(&noticed(&[event(CALL, 22, 0)]));
+        let cut = event(14, 25, 0);
+        assert_eq!(under(Answer::Accepted(0), &cut, &before), None);
+        let told = |number| hint(number, &cut, &before);
+        assert_eq!(under(Answer::Refused(13), &cut, &before), told(13));
+        assert_eq!(told(24), None);
     }
 
     #[test]

@@ -1,6 +1,6 @@
 //! An account of a book, posted event by event to an account that the core keeps. Every answer and every sum is the core's;
 //! what an event added is the difference of what the core says is owed before and after it.
-use crate::core::{Account, Answer};
+use crate::core::{Account, Answer, Calendar};
 use crate::event::Event;
 use crate::hints::{self, Before};
 use std::collections::HashMap;
@@ -22,8 +22,8 @@ pub struct Step {
     /// What the event changed of what is owed, beyond the sum that it speaks of itself: a late charge or a fee above 0, a
     /// deposit that became a credit below.
     pub added: i128,
-    /// What to look for, where the event is refused.
-    pub hint: Option<String>,
+    /// The line under its answer: what to look for where it is refused, the working days that a disconnection counted.
+    pub note: Option<String>,
 }
 
 impl Step {
@@ -56,7 +56,15 @@ pub struct History {
 impl History {
     /// Posts all events, one after another.
     pub fn of(events: &[Event]) -> (History, Vec<Step>) {
-        let mut history = History::default();
+        History::begun(None, events)
+    }
+
+    /// The same to an account that is begun with a calendar, where one is given.
+    pub fn begun(calendar: Option<&Calendar>, events: &[Event]) -> (History, Vec<Step>) {
+        let mut history = History {
+            before: Before::begun(calendar),
+            ..History::default()
+        };
         let steps = events.iter().map(|&event| history.post(event)).collect();
         (history, steps)
     }
@@ -73,7 +81,8 @@ impl History {
     pub fn post(&mut self, event: Event) -> Step {
         let owed = self.account().owed();
         let again = self.payment_returned(&event);
-        let hint = self.hint(&event);
+        let foretold = self.account().would_answer(event);
+        let note = hints::under(foretold, &event, &self.before);
         let answer = self.before.post(event);
         match answer {
             Answer::Accepted(0) => {}
@@ -95,7 +104,7 @@ impl History {
             } else {
                 0
             },
-            hint,
+            note,
         }
     }
 
@@ -113,13 +122,6 @@ impl History {
             return None;
         }
         self.payments.get(&(event.option, event.amount)).copied()
-    }
-
-    fn hint(&self, event: &Event) -> Option<String> {
-        match self.account().would_answer(*event) {
-            Answer::Accepted(_) => None,
-            Answer::Refused(number) => hints::hint(number, event, &self.before),
-        }
     }
 }
 

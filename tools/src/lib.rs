@@ -1,6 +1,7 @@
 //! What the tools, the tests and the benchmark share: events, service, the readable text of a book, and the proved core.
 
 pub mod bill;
+pub mod calendar;
 pub mod columns;
 pub mod core;
 pub mod csv;

@@ -1,19 +1,49 @@
 //! An account in words for the support desk: its history, what it says of a day, and what would come of an event. All answers
 //! are the core's; here they only get words.
-use crate::core::{Account, Answer};
+use crate::calendar;
+use crate::core::{Account, Answer, Calendar};
 use crate::dates::{date, day};
 use crate::event::Event;
 use crate::hints;
 use crate::history::{History, Step};
 use crate::table::{table, Row, Side};
-use crate::words::{self, money};
+use crate::words::{self, counted, money};
 
 const DISCONNECTION: u8 = 14;
 
+/// An account of a book, as it is told.
+#[derive(Clone, Copy)]
+pub struct Subject<'a> {
+    pub account: usize,
+    /// How many the book has.
+    pub accounts: usize,
+    pub events: &'a [Event],
+    /// The one that it is begun with, if any: a book holds none.
+    pub calendar: Option<&'a Calendar>,
+}
+
+impl Subject<'_> {
+    pub fn history(&self) -> (History, Vec<Step>) {
+        History::begun(self.calendar, self.events)
+    }
+
+    /// What stands above all that is told of it.
+    fn heading(&self, how: &str) -> String {
+        let Subject {
+            account, accounts, ..
+        } = self;
+        let calendar = match self.calendar {
+            Some(calendar) => format!("Its calendar has {}.\n", calendar::days(calendar.first)),
+            None => String::new(),
+        };
+        format!("Account {account} of {accounts}{how}. Sums are in dollars.\n{calendar}\n")
+    }
+}
+
 /// The history as a table with an answer for each event, the open charges, and the standing.
-pub fn tell(account: usize, accounts: usize, events: &[Event]) -> String {
-    let (history, steps) = History::of(events);
-    let mut text = format!("Account {account} of {accounts}. Sums are in dollars.\n\n");
+pub fn tell(subject: &Subject) -> String {
+    let (history, steps) = subject.history();
+    let mut text = subject.heading("");
     if !steps.is_empty() {
         text += &table_of(&steps, "");
         text += "\n";
@@ -24,20 +54,17 @@ pub fn tell(account: usize, accounts: usize, events: &[Event]) -> String {
 }
 
 /// What would come of an event after all others.
-pub fn tried(account: usize, accounts: usize, events: &[Event], event: Event) -> String {
-    let (history, _) = History::of(events);
+pub fn tried(subject: &Subject, event: Event) -> String {
+    let (history, _) = subject.history();
     let table = table_of(&[history.tried(event)], "would be ");
-    format!("Account {account} of {accounts}, tried with nothing changed. Sums are in dollars.\n\n{table}")
+    subject.heading(", tried with nothing changed") + &table
 }
 
 /// What the account says of a day after all events.
-pub fn on(account: usize, accounts: usize, events: &[Event], t: u32) -> String {
-    let (history, _) = History::of(events);
+pub fn on(subject: &Subject, t: u32) -> String {
+    let (history, _) = subject.history();
     let told = said_of(&history, t).unwrap_or_else(|number| day_refused(&history, t, number));
-    let t = day(t);
-    format!(
-        "Account {account} of {accounts} on {t}, after all events. Sums are in dollars.\n\n{told}"
-    )
+    subject.heading(&format!(" on {}, after all events", day(t))) + &told
 }
 
 fn table_of(steps: &[Step], tense: &str) -> String {
@@ -51,7 +78,7 @@ fn table_of(steps: &[Step], tense: &str) -> String {
             money(step.owed.into()),
             tense.to_string() + &answer(step),
         ],
-        note: step.hint.clone(),
+        note: step.note.clone(),
     }));
     let sides = [Side::Right, Side::Left, Side::Left, Side::Right, Side::Left];
     table(&sides, &rows)
@@ -120,14 +147,6 @@ fn standing(history: &History) -> String {
     format!("Standing: {owed}, {held}, {open}, service {service}, {refused} refused.\n")
 }
 
-fn counted(number: u64, what: &str) -> String {
-    match number {
-        0 => format!("no {what}s"),
-        1 => format!("1 {what}"),
-        _ => format!("{number} {what}s"),
-    }
-}
-
 /// What the core answers to the questions for a day, or the number that refuses the day.
 fn said_of(history: &History, t: u32) -> Result<String, u8> {
     let account = history.account();
@@ -153,14 +172,13 @@ fn said_of(history: &History, t: u32) -> Result<String, u8> {
 /// Whether a disconnection would be accepted on a day.
 fn disconnection(history: &History, t: u32) -> Row {
     let event = Event::of(DISCONNECTION, t, 0);
-    let (told, note) = match history.account().would_answer(event) {
-        Answer::Accepted(_) => ("allowed".to_string(), None),
-        Answer::Refused(number) => (
-            format!("not allowed, {}", refused(number, DISCONNECTION)),
-            hints::hint(number, &event, history.before()),
-        ),
+    let answer = history.account().would_answer(event);
+    let told = match answer {
+        Answer::Accepted(_) => "allowed".to_string(),
+        Answer::Refused(number) => format!("not allowed, {}", refused(number, DISCONNECTION)),
     };
     let cells = vec!["disconnection".to_string(), told];
+    let note = hints::under(answer, &event, history.before());
     Row { cells, note }
 }
 
@@ -184,11 +202,21 @@ mod tests {
         events.collect()
     }
 
+    /// The first of two accounts, which has no calendar.
+    fn subject(events: &[Event]) -> Subject<'_> {
+        Subject {
+            account: 0,
+            accounts: 2,
+            events,
+            calendar: None,
+        }
+    }
+
     #[test]
     fn the_columns_stand_under_each_other() {
         let events = events("9 bill 10000; 131 payment 4000; 131 bill 700; 131 cut");
         let expected = "\
-Account 0 of 1. Sums are in dollars.
+Account 0 of 2. Sums are in dollars.
 
 day  date        event               owed  answer
   9  2000-01-10  bill of 100.00    100.00  accepted
@@ -205,7 +233,7 @@ day  date        unpaid
 
 Standing: 67.45 owed, no deposit held, 2 open charges, service on, 1 event refused.
 ";
-        assert_eq!(tell(0, 1, &events), expected);
+        assert_eq!(tell(&subject(&events)), expected);
     }
 
     /// The answers to events, in the words of the table.
@@ -263,7 +291,7 @@ Standing: 67.45 owed, no deposit held, 2 open charges, service on, 1 event refus
 
     #[test]
     fn a_day_is_told_by_all_its_questions() {
-        let told = on(0, 2, &events(NOTICED), 25);
+        let told = on(&subject(&events(NOTICED)), 25);
         let expected = "\
 Account 0 of 2 on day 25 (2000-01-26), after all events. Sums are in dollars.
 
@@ -275,7 +303,7 @@ disconnection        allowed
 ";
         assert_eq!(told, expected);
         let barred = format!("{NOTICED}; 22 arrangement 2; 23 certificate 9");
-        let told = on(0, 2, &events(&barred), 24);
+        let told = on(&subject(&events(&barred)), 24);
         let expected = "\
 payment arrangement  in force to day 51 (2000-02-21)
 medical certificate  live to day 31 (2000-02-01)
@@ -285,9 +313,63 @@ disconnection        not allowed, refused 12: no live final notice, or it is too
         assert!(told.ends_with(expected), "{told}");
     }
 
+    /// What is told of an account with a calendar, whose first five working days are 21, 22, 23, 25 and 26.
+    fn by_calendar(tell: impl Fn(&Subject) -> String) -> String {
+        let events = events("0 bill 6000; 20 notice; 24 call");
+        let calendar = Calendar {
+            first: 20,
+            bits: [0b110_1110; 32],
+        };
+        tell(&Subject {
+            calendar: Some(&calendar),
+            ..subject(&events)
+        })
+    }
+
+    const COUNTED: &str = "5 working days after the notice of day 20 (2000-01-21): \
+        2000-01-22, 2000-01-23, 2000-01-24, 2000-01-26, 2000-01-27\n";
+
+    #[test]
+    fn a_day_is_told_by_the_calendar_too() {
+        let told = |t| by_calendar(|subject| on(subject, t));
+        let expected = "\
+Account 0 of 2 on day 25 (2000-01-26), after all events. Sums are in dollars.
+Its calendar has day 20 (2000-01-21) to day 2067 (2005-08-29).
+
+arrears              60.00
+final notice         live to day 40 (2000-02-10)
+payment arrangement  none in force
+medical certificate  none live
+disconnection        not allowed, refused 12: no live final notice, or it is too new or too old
+                       4 working days after the notice of day 20 (2000-01-21): 2000-01-22, 2000-01-23, 2000-01-24, 2000-01-26; 5 are wanted
+";
+        assert_eq!(told(25), expected);
+        let allowed = format!("\ndisconnection        allowed\n                       {COUNTED}");
+        assert!(told(26).ends_with(&allowed));
+        assert!(told(2_068).ends_with(
+            "\ndisconnection        not allowed, refused 24: the day lies outside the account's calendar\n                       \
+            the calendar has day 20 (2000-01-21) to day 2067 (2005-08-29)\n"
+        ));
+    }
+
+    #[test]
+    fn a_disconnection_that_is_tried_names_its_working_days() {
+        let cut = text::event("26 cut").unwrap();
+        let expected = format!(
+            "\
+Account 0 of 2, tried with nothing changed. Sums are in dollars.
+Its calendar has day 20 (2000-01-21) to day 2067 (2005-08-29).
+
+day  date        event           owed  answer
+ 26  2000-01-27  disconnection  75.00  would be accepted
+                                         {COUNTED}"
+        );
+        assert_eq!(by_calendar(|subject| tried(subject, cut)), expected);
+    }
+
     #[test]
     fn a_day_that_is_refused_is_told_in_words() {
-        let told = |t| on(0, 1, &events(NOTICED), t);
+        let told = |t| on(&subject(&events(NOTICED)), t);
         assert!(told(21).ends_with(
             ".\n\nrefused 2: the day is before that of the last accepted event\n  \
             the last accepted event is of day 22 (2000-01-23)\n"
@@ -295,16 +377,16 @@ disconnection        not allowed, refused 12: no live final notice, or it is too
         assert!(told(73_048).contains("\ndisconnection "));
         assert_eq!(
             told(73_049),
-            "Account 0 of 1 on day 73049, after all events. Sums are in dollars.\n\n\
+            "Account 0 of 2 on day 73049, after all events. Sums are in dollars.\n\n\
             refused 1: the day is after 31 December 2199\n"
         );
     }
 
     #[test]
     fn what_is_tried_is_told_as_what_would_be() {
-        let told = |event| tried(1, 2, &events(NOTICED), text::event(event).unwrap());
+        let told = |event| tried(&subject(&events(NOTICED)), text::event(event).unwrap());
         let expected = "\
-Account 1 of 2, tried with nothing changed. Sums are in dollars.
+Account 0 of 2, tried with nothing changed. Sums are in dollars.
 
 day  date        event           owed  answer
  22  2000-01-23  bill of 10.00  85.56  would be accepted, 0.56 late charge added

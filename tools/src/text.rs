@@ -34,19 +34,29 @@ impl fmt::Display for Mistake {
 /// The account list of a text.
 pub fn read(text: &str) -> Result<AccountList, Mistake> {
     let mut list = AccountList::new();
+    each_line(text, |words| read_line(words, &mut list))?;
+    Ok(list)
+}
+
+/// Hands on the words of each line, until one is a mistake.
+pub fn each_line(
+    text: &str,
+    mut take: impl FnMut(&[&str]) -> Result<(), String>,
+) -> Result<(), Mistake> {
     // Some editors put a mark of the encoding before the first line.
     let text = text.strip_prefix('\u{feff}').unwrap_or(text);
     for (index, line) in text.lines().enumerate() {
-        read_line(line, &mut list).map_err(|words| Mistake {
+        let taken = words(line).and_then(|words| take(&words));
+        taken.map_err(|words| Mistake {
             line: index + 1,
             words,
         })?;
     }
-    Ok(list)
+    Ok(())
 }
 
-fn read_line(line: &str, list: &mut AccountList) -> Result<(), String> {
-    match words(line)?[..] {
+fn read_line(words: &[&str], list: &mut AccountList) -> Result<(), String> {
+    match *words {
         [] => {}
         ["account"] => list.push(Vec::new()),
         ["account", ..] => {
@@ -177,7 +187,7 @@ fn written_number(digits: &str, what: &str, form: &str, largest: u64) -> Result<
     match plain.parse() {
         Ok(n) if n <= largest => Ok(n),
         _ => Err(format!(
-            "expected {what}, found `{}`, and a book holds {largest} there at most",
+            "expected {what}, found `{}`, and it is {largest} at most",
             shown(digits)
         )),
     }
@@ -419,7 +429,7 @@ mod tests {
         );
         assert!(told("5 payment 7 till=").contains("the till as a whole number, found ``"));
         assert!(told("5 payment 7 till=drop").contains("the till as a whole number, found `drop`"));
-        assert!(told("5 payment 7 till=256").contains("a book holds 255 there at most"));
+        assert!(told("5 payment 7 till=256").contains("it is 255 at most"));
     }
 
     #[test]

@@ -3,7 +3,7 @@ use crate::event::Event;
 use crate::kinds::{self, Named};
 
 /// What number n means stands at n - 1.
-const MEANINGS: [&str; 23] = [
+const MEANINGS: [&str; 24] = [
     "the day is after 31 December 2199",
     "the day is before that of the last accepted event",
     "a field of the event is out of its range, or set where it should be 0",
@@ -27,6 +27,7 @@ const MEANINGS: [&str; 23] = [
     "a record of the book has an unknown kind, or spare bytes that are not 0",
     "the memory lent is too short",
     "the class is not 1 to 3, or the usage is over 10,000,000 kWh",
+    "the day lies outside the account's calendar",
 ];
 
 /// Why a book is refused, as the commands say it.
@@ -94,6 +95,15 @@ pub fn class(class: u8) -> Option<&'static str> {
         2 => Some("single phase"),
         3 => Some("three phase"),
         _ => None,
+    }
+}
+
+/// So many of what is named by one of it.
+pub fn counted(number: u64, what: &str) -> String {
+    match number {
+        0 => format!("no {what}s"),
+        1 => format!("1 {what}"),
+        _ => format!("{number} {what}s"),
     }
 }
 
@@ -187,14 +197,14 @@ mod tests {
         // The first words of each, in the order of the numbers.
         let beginnings = "the day is after; the day is before; a field; the account; service; the till; the sum; \
             the deposit; nothing; the arrears; a final; no live; no call; a payment; a medical; there are; less; 64 charges; \
-            charges or; the book's; a record; the memory; the class";
-        for (beginning, number) in beginnings.split("; ").zip(1..=23) {
+            charges or; the book's; a record; the memory; the class; the day lies";
+        for (beginning, number) in beginnings.split("; ").zip(1..=24) {
             let begins_so = |number: &u8| meaning(*number).starts_with(beginning);
-            let found: Vec<u8> = (0..=24).filter(begins_so).collect();
+            let found: Vec<u8> = (0..=25).filter(begins_so).collect();
             assert_eq!(found, [number], "{beginning}");
         }
         assert_eq!(meaning(0), "no number of the table");
-        assert_eq!(meaning(24), meaning(0));
+        assert_eq!(meaning(25), meaning(0));
     }
 
     #[test]

@@ -5,8 +5,8 @@ use common::after;
 use std::fs;
 use std::hint::black_box;
 use std::path::Path;
-use tools::core::lent::{self, ACCEPTED, WORDS};
-use tools::core::{Account, Accounts, Answer, OpenItem};
+use tools::core::lent::{self, ACCEPTED, CALENDAR_DAYS, CALENDAR_WORDS, WORDS};
+use tools::core::{Account, Accounts, Answer, Calendar, OpenItem};
 use tools::event::Event;
 use tools::kinds::KINDS;
 use tools::service::Service;
@@ -39,6 +39,11 @@ fn wrapper_header_and_library_agree_on_the_size() {
     assert_eq!(lent::words(), WORDS as u64);
     assert_eq!(in_header("HOLLUPAQ_WORDS"), Some(WORDS));
     assert_eq!(in_header("HOLLUPAQ_ACCEPTED"), Some(ACCEPTED as usize));
+    let days = Some(CALENDAR_DAYS as usize);
+    assert_eq!(in_header("HOLLUPAQ_CALENDAR_DAYS"), days);
+    let words = Some(CALENDAR_WORDS);
+    assert_eq!(in_header("HOLLUPAQ_CALENDAR_WORDS"), words);
+    assert_eq!(days, words.map(|words| words * u64::BITS as usize));
 }
 
 #[test]
@@ -209,6 +214,7 @@ fn is_no_account(memory: &[u64]) {
         assert_eq!(lent::in_force(memory, day), 0);
         assert_eq!(lent::notice_live(memory, day), 0);
         assert_eq!(lent::certified(memory, day), 0);
+        assert_eq!(lent::working_days(memory, 0, day), 0);
     }
 }
 
@@ -221,8 +227,94 @@ fn memory_of_another_length_is_no_account() {
         let mut memory = longer[..length].to_vec();
         is_no_account(&memory);
         assert_eq!(lent::fresh(&mut memory), 0);
+        assert_eq!(lent::begin(&mut memory, 0, &[0; CALENDAR_WORDS]), 0);
         assert_eq!(memory, longer[..length]);
     }
+}
+
+/// Days 20 and 21, 83 and 84 on both sides of the end of a word, and the last, day 2067.
+fn some_days() -> Calendar {
+    let mut bits = [0; CALENDAR_WORDS];
+    bits[0] = 1 << 63 | 0b11;
+    bits[1] = 1;
+    bits[31] = 1 << 63;
+    Calendar { first: 20, bits }
+}
+
+#[test]
+fn an_account_begun_with_a_calendar_counts_its_working_days() {
+    let calendar = some_days();
+    let account = Account::begin(&calendar);
+    assert!(account.is_ok());
+    assert_eq!(account.clone(), Account::begin(&calendar));
+    for (after, to, count) in [
+        (0, 19, 0),
+        (19, 20, 1),
+        (20, 20, 0),
+        (20, 21, 1),
+        (21, 20, 0),
+        (21, 82, 0),
+        (82, 84, 2),
+        (83, 84, 1),
+        (0, 2_066, 4),
+        (0, 2_067, 5),
+        (2_066, u32::MAX, 1),
+        (0, u32::MAX, 5),
+        (u32::MAX, 0, 0),
+    ] {
+        let counted = account.working_days(after, to);
+        assert_eq!(counted, Some(count), "after {after} to {to}");
+    }
+    assert_eq!(Account::fresh().working_days(0, u32::MAX), None);
+    // What goes in leaves it, and nobody's account without one is the same.
+    let mut posted = account.clone();
+    assert_eq!(posted.post(Event::of(1, 0, 6_000)), Answer::Accepted(0));
+    assert_eq!(posted.working_days(0, u32::MAX), Some(5));
+    assert_ne!(account, Account::fresh());
+    let other = Calendar {
+        first: 19,
+        ..calendar
+    };
+    assert_ne!(account, Account::begin(&other));
+}
+
+#[test]
+fn a_calendar_has_so_many_words_and_any_first_day() {
+    let before = [7; WORDS];
+    for length in [0, 1, CALENDAR_WORDS - 1, CALENDAR_WORDS + 1] {
+        let mut memory = before;
+        assert_eq!(lent::begin(&mut memory, 0, &vec![1; length]), 0);
+        assert_eq!(memory, before);
+    }
+    for first in [0, 73_048, u32::MAX] {
+        let bits = [u64::MAX; CALENDAR_WORDS];
+        let account = Account::begin(&Calendar { first, bits });
+        let last = first.saturating_add(CALENDAR_DAYS - 1);
+        let counted = account.working_days(first.saturating_sub(1), u32::MAX);
+        // The first day is not counted where there is none before it, and no day is past the last number.
+        let days = last - first + u32::from(first > 0);
+        assert_eq!(counted, Some(days.into()), "{first}");
+    }
+}
+
+#[test]
+fn a_cut_waits_for_the_calendar_s_days() {
+    let mut calendar = some_days();
+    calendar.bits[0] = 0b1101111;
+    let mut account = Account::begin(&calendar);
+    let [bill, notice, call, cut] = to_the_cut();
+    assert_eq!(
+        account.post(Event { day: 19, ..notice }),
+        Answer::Refused(24)
+    );
+    assert_eq!(account.post(bill), Answer::Accepted(0));
+    assert_eq!(account.post(notice), Answer::Accepted(0));
+    assert_eq!(account.post(Event { day: 24, ..call }), Answer::Accepted(0));
+    // Days 21, 22, 23 and 25 are working days, and 24 is none: day 26 is the fifth.
+    assert_eq!(account.post(cut), Answer::Refused(12));
+    assert_eq!(account.working_days(20, 25), Some(4));
+    assert_eq!(account.post(Event { day: 26, ..cut }), Answer::Accepted(0));
+    assert_eq!(account.service(), Service::Off);
 }
 
 #[test]

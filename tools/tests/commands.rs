@@ -37,9 +37,17 @@ fn each_command_has_a_help_of_its_own() {
         }
     }
     let help = printed(run("why --help", b""));
-    for option in ["--on DAY", "--try 'DAY EVENT ..'", "--csv"] {
+    for option in [
+        "--on DAY",
+        "--try 'DAY EVENT ..'",
+        "--csv",
+        "--calendar FILE",
+    ] {
         assert!(help.contains(&format!("\n  {option} ")), "{option}");
     }
+    // The calendar that it shows is one.
+    let (_, shown) = help.split_once("\n\n  first ").unwrap();
+    assert!(tools::calendar::read(&format!("first {shown}")).is_ok());
     // The help names the columns in words of its own.
     assert!(help.contains(&format!("\n  {}\n", tools::csv::COLUMNS)));
     assert!(help.contains("sums are in cents"));
@@ -52,9 +60,9 @@ fn each_command_has_a_help_of_its_own() {
 
 #[test]
 fn the_version_is_the_library_s() {
-    assert_eq!(core::version(), 10_300);
+    assert_eq!(core::version(), 10_400);
     for words in ["--version", "-V"] {
-        assert_eq!(printed(run(words, b"")), "hollupaq 1.3.0\n");
+        assert_eq!(printed(run(words, b"")), "hollupaq 1.4.0\n");
     }
 }
 
@@ -72,7 +80,7 @@ const USAGES: [(&str, &str); 7] = [
     ),
     (
         "hollupaq why",
-        "hollupaq why BOOK [N] [--on DAY | --try 'DAY EVENT ..' | --csv]",
+        "hollupaq why BOOK [N] [--on DAY | --try 'DAY EVENT ..' | --csv] [--calendar FILE]",
     ),
     ("hollupaq bill", "hollupaq bill CLASS USAGE"),
     ("hollupaq reading", "hollupaq reading CLASS CENTS"),
@@ -95,6 +103,9 @@ why - --on => hollupaq why: DAY is missing after --on
 why - --csv=1 => hollupaq why: nothing follows --csv
 why - --csv --csv => hollupaq why: --csv is given twice
 why - --csv --on 5 => hollupaq why: --csv and --on do not go together
+why - --calendar => hollupaq why: FILE is missing after --calendar
+why - --calendar=a --calendar b => hollupaq why: --calendar is given twice
+why - --calendar - => hollupaq why: --calendar: only one of BOOK and FILE can be standard input
 why - one => hollupaq why: N is the number of an account, 0 or more, and not `one`
 bill => hollupaq bill: CLASS is missing
 bill 1 => hollupaq bill: USAGE is missing

@@ -3,7 +3,7 @@ use std::fs;
 use std::path::{Path, PathBuf};
 use tools::core::books;
 use tools::history::History;
-use tools::{core, text};
+use tools::{calendar, core, text};
 
 fn folder() -> PathBuf {
     Path::new(env!("CARGO_MANIFEST_DIR")).join("../examples")
@@ -27,10 +27,11 @@ fn names() -> Vec<String> {
 }
 
 #[test]
-fn there_are_five() {
+fn there_are_six() {
     let expected = [
         "deposit-way",
         "family-in-arrears",
+        "five-working-days",
         "sample",
         "shop-with-returned-checks",
         "three-tills",
@@ -84,6 +85,22 @@ fn the_remarks_tell_what_is_refused() {
             .collect();
         assert_eq!(remarks, answers, "{name}");
     }
+}
+
+/// The dates that its remark names, and the answers to the book that speaks of it.
+#[test]
+fn the_calendar_moves_the_disconnection() {
+    let calendar = String::from_utf8(read("sample", "calendar")).unwrap();
+    assert!(calendar.contains("to 10 August 2031"));
+    let calendar = calendar::read(&calendar).unwrap();
+    assert!(calendar::days(calendar.first).ends_with("(2031-08-10)"));
+    let list = books::read(&read("five-working-days", "book")).unwrap();
+    let numbers = |calendar| -> Vec<u8> {
+        let (_, steps) = History::begun(calendar, &list[0]);
+        steps.iter().map(|step| step.number()).collect()
+    };
+    assert_eq!(numbers(None), [0, 0, 0, 0, 5, 5]);
+    assert_eq!(numbers(Some(&calendar)), [0, 0, 0, 12, 0, 0]);
 }
 
 /// What `hollupaq why` tells is taken of an account that is posted to: it is the core's history of the book, and its standing.

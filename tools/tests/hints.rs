@@ -4,13 +4,14 @@ mod common;
 
 use common::last_answer;
 use std::ops::RangeInclusive;
-use tools::core::Answer;
-use tools::dates::day;
+use tools::core::{Answer, Calendar};
+use tools::dates::{day, day_of, LAST_DAY};
 use tools::event::Event;
 use tools::hints::{
-    arrears_days, call_days, conduct_from, full_days, hint, notice_days, Before, Days,
-    DEPOSIT_NOTICES, RETURNABLE,
+    arrears_days, call_days, conduct_from, full_days, hint, notice_days, under, Before, Days,
+    DEPOSIT_NOTICES, NOTICE_LASTS, NOTICE_WAITS, RETURNABLE,
 };
+use tools::words::counted;
 
 fn bill(day: u32, amount: u64) -> Event {
     Event::of(1, day, amount)
@@ -66,7 +67,10 @@ fn lawful(day: u32) -> [Event; 3] {
 
 /// The account before an event, as its hint looks at it.
 fn before(events: &[Event]) -> Before {
-    let mut before = Before::default();
+    after(Before::default(), events)
+}
+
+fn after(mut before: Before, events: &[Event]) -> Before {
     for &event in events {
         assert!(matches!(before.post(event), Answer::Accepted(_)));
     }
@@ -102,6 +106,114 @@ fn a_disconnection_wants_a_notice_of_these_days() {
         false => vec![bill(0, 60_000), call(t - 1), notice(n), cut(t)],
     };
     assert_eq!(passing(12, 20..=t, noticed_on), all(notice_days(t)));
+}
+
+/// A calendar whose days are those of one word, again and again.
+fn calendar(first: u32, word: u64) -> Calendar {
+    let bits = [word; 32];
+    Calendar { first, bits }
+}
+
+/// Whether a day of the calendar is a working day, by its bit.
+fn is_working(calendar: &Calendar, day: u32) -> bool {
+    let at = (day - calendar.first) as usize;
+    calendar.bits[at / 64] >> (at % 64) & 1 == 1
+}
+
+/// The days whose dates a line names after its colon.
+fn named(line: &str) -> Vec<u32> {
+    let (_, dates) = line.split_once(": ").unwrap_or_default();
+    let dates = dates.split(';').next().unwrap().split(", ");
+    dates.filter_map(day_of).collect()
+}
+
+/// A disconnection on day t that only its notice may refuse, with the notice on each of the calendar's days about those that count.
+fn waits_so_many_working_days(calendar: &Calendar, t: u32) {
+    let first = notice_days(t).unwrap().first;
+    for n in calendar.first.max(first - 3)..=t {
+        let mut events = [bill(0, 60_000), notice(n), call(t - 1)];
+        events.sort_by_key(|event| event.day);
+        let before = after(Before::begun(Some(calendar)), &events);
+        let days: Vec<u32> = (n + 1..=t).filter(|&d| is_working(calendar, d)).collect();
+        let is_lawful = n >= first && days.len() >= NOTICE_WAITS as usize;
+        let answer = before.account().would_answer(cut(t));
+        let expected = match is_lawful {
+            true => Answer::Accepted(0),
+            false => Answer::Refused(12),
+        };
+        assert_eq!(answer, expected, "notice {n}, cut {t}");
+        let told = under(answer, &cut(t), &before).unwrap();
+        if n < first {
+            let beginning = format!("it has to be of {} or later, ", day(first));
+            assert!(told.starts_with(&beginning), "{told}");
+            continue;
+        }
+        let count = counted(days.len() as u64, "working day");
+        let beginning = format!("{count} after the notice of {}", day(n));
+        assert!(told.starts_with(&beginning), "{told}");
+        assert_eq!(named(&told), days, "{told}");
+        let wanted = format!("; {NOTICE_WAITS} are wanted");
+        assert_eq!(told.ends_with(&wanted), !is_lawful, "{told}");
+    }
+}
+
+#[test]
+fn with_a_calendar_a_notice_waits_so_many_working_days() {
+    let t = 2_200;
+    let weeks = (0..64).filter(|at| at % 7 < 5).map(|at| 1 << at).sum();
+    // All days, weeks, every third day, the ends of each word, none.
+    for word in [u64::MAX, weeks, u64::MAX / 7, 1 << 63 | 1, 0] {
+        // From long before; from the day of the oldest notice that counts, and of the next; from too late on.
+        let oldest = t - NOTICE_LASTS;
+        for first in [t - 1_000, oldest, oldest + 1, t - 5, t - 4, t] {
+            waits_so_many_working_days(&calendar(first, word), t);
+        }
+        // To the day itself.
+        waits_so_many_working_days(&calendar(t - 2_047, word), t);
+    }
+}
+
+#[test]
+fn four_working_days_are_too_few_and_five_enough() {
+    // The disconnection is of the calendar's last day, whose bit is 63 of the last word; bit 53 is that of the notice's day.
+    let events = [bill(0, 60_000), notice(2_090), call(2_099)];
+    let answer = |last_word| {
+        let mut calendar = calendar(53, 0);
+        calendar.bits[31] = last_word;
+        let before = after(Before::begun(Some(&calendar)), &events);
+        before.account().would_answer(cut(2_100))
+    };
+    for too_few in [0b1111 << 59, 0b1111 << 60, 0b1111 << 60 | 1 << 53] {
+        assert_eq!(answer(too_few), Answer::Refused(12), "{too_few:x}");
+    }
+    for enough in [0b11111 << 59, 0b1111 << 60 | 1 << 54, u64::MAX] {
+        assert_eq!(answer(enough), Answer::Accepted(0), "{enough:x}");
+    }
+}
+
+#[test]
+fn a_notice_and_a_disconnection_are_of_days_of_the_calendar() {
+    for first in [0, 100, LAST_DAY - 2_047, LAST_DAY, LAST_DAY + 1, u32::MAX] {
+        let before = Before::begun(Some(&calendar(first, u64::MAX)));
+        let (first, last) = (i64::from(first), i64::from(first) + 2_047);
+        let told = hint(24, &cut(0), &before).unwrap();
+        let beginning = format!("the calendar has day {first}");
+        assert!(told.starts_with(&beginning), "{told}");
+        assert!(told.contains(&format!(" to day {last}")), "{told}");
+        for d in [first - 1, first, last, last + 1, 0, LAST_DAY.into()] {
+            let Some(day) = u32::try_from(d).ok().filter(|&d| d <= LAST_DAY) else {
+                continue;
+            };
+            // Where it does not refuse them, 10 does: nothing is in arrears.
+            let number = if d < first || last < d { 24 } else { 10 };
+            for event in [notice(day), cut(day)] {
+                let answer = before.account().would_answer(event);
+                assert_eq!(answer, Answer::Refused(number), "{event:?} {told}");
+            }
+            let answer = before.account().would_answer(call(day));
+            assert_eq!(answer, Answer::Accepted(0), "{day} {told}");
+        }
+    }
 }
 
 #[test]

@@ -1,7 +1,9 @@
 //! `hollupaq why`: the history of an account, a day, an event that is only tried, and the spreadsheet.
 mod run;
 
-use run::{complaint, pack, printed, run, run_words, TEXT};
+use run::{complaint, folder, pack, printed, run, run_words, shell, TEXT};
+use std::fs;
+use std::path::PathBuf;
 
 /// What `why` prints of the sample book.
 fn why(words: &[&str]) -> String {
@@ -245,4 +247,240 @@ fn a_spreadsheet_gets_the_tills() {
 7,2000-01-08,returned,1,1,0,,2500,-6500,
 ";
     assert!(told.contains(expected), "{told}");
+}
+
+/// A notice on a Friday, day 20 being 21 January 2000; two disconnections after it, each with its call.
+const NOTICED: &[u8] = b"account
+  0 bill 6000
+  20 notice
+  26 call
+  27 cut
+  28 cut
+";
+
+/// The Monday after it is a holiday, and the office is open on Sunday.
+const OFFICE: &str =
+    "first 2000-01-21 # a Friday\nweek mon tue wed thu fri\non 2000-01-23\noff 2000-01-24\n";
+
+/// A folder with the calendar in it, under the name `office`.
+fn office(name: &str) -> PathBuf {
+    let folder = folder(name);
+    fs::write(folder.join("office"), OFFICE).unwrap();
+    folder
+}
+
+/// What `why` prints of the book of a text by the calendar.
+fn by_calendar(name: &str, text: &[u8], words: &str) -> String {
+    let line = format!("hollupaq why - --calendar office {words}");
+    printed(shell(&line, &office(name), &pack(text)))
+}
+
+#[test]
+fn a_calendar_s_working_days_are_named() {
+    let expected = "\
+Account 0 of 1. Sums are in dollars.
+Its calendar has day 20 (2000-01-21) to day 2067 (2005-08-29).
+
+day  date        event           owed  answer
+  0  2000-01-01  bill of 60.00  60.00  accepted
+ 20  2000-01-21  final notice   75.00  accepted, 15.00 final notice fee added
+ 26  2000-01-27  call           75.00  accepted
+ 27  2000-01-28  disconnection  75.00  accepted
+                                         5 working days after the notice of day 20 (2000-01-21): 2000-01-23, 2000-01-25, 2000-01-26, 2000-01-27, 2000-01-28
+ 28  2000-01-29  disconnection  75.00  refused 5: service is not on
+
+Open charges, the oldest first:
+
+day  date        unpaid
+  0  2000-01-01   60.00
+ 20  2000-01-21   15.00
+
+Standing: 75.00 owed, no deposit held, 2 open charges, service off, 1 event refused.
+";
+    assert_eq!(by_calendar("named", NOTICED, ""), expected);
+    // A day earlier, there are four of them.
+    let early = String::from_utf8(NOTICED.to_vec()).unwrap();
+    let early = early.replace("26 call\n  27 cut", "25 call\n  26 cut");
+    let told = by_calendar("early", early.as_bytes(), "");
+    assert!(told.contains(
+        "
+ 26  2000-01-27  disconnection  75.00  refused 12: no live final notice, or it is too new or too old
+                                         4 working days after the notice of day 20 (2000-01-21): 2000-01-23, 2000-01-25, 2000-01-26, 2000-01-27; 5 are wanted
+ 28  2000-01-29  disconnection  75.00  accepted
+                                         5 working days after the notice of day 20 (2000-01-21): 2000-01-23, 2000-01-25, 2000-01-26, 2000-01-27, 2000-01-28
+"
+    ), "{told}");
+    // Without a calendar the days are counted, and none is named.
+    let told = printed(run("why -", &pack(early.as_bytes())));
+    assert!(told.contains(" 26  2000-01-27  disconnection  75.00  accepted\n 28 "));
+    assert!(!told.contains("working") && !told.contains("calendar"));
+}
+
+#[test]
+fn a_calendar_goes_with_the_other_options() {
+    let text = b"account\n 0 bill 6000\n 20 notice\n 24 call\n";
+    let heading = "Its calendar has day 20 (2000-01-21) to day 2067 (2005-08-29).\n\n";
+    let told = by_calendar("on", text, "--on 2000-01-26");
+    assert!(told.starts_with(&format!("Account 0 of 1 on day 25 (2000-01-26), after all events. Sums are in dollars.\n{heading}")), "{told}");
+    assert!(told.ends_with(
+        "
+disconnection        not allowed, refused 12: no live final notice, or it is too new or too old
+                       3 working days after the notice of day 20 (2000-01-21): 2000-01-23, 2000-01-25, 2000-01-26; 5 are wanted
+"
+    ), "{told}");
+    let told = by_calendar("on", text, "--on 27");
+    assert!(told.ends_with(
+        "
+disconnection        allowed
+                       5 working days after the notice of day 20 (2000-01-21): 2000-01-23, 2000-01-25, 2000-01-26, 2000-01-27, 2000-01-28
+"
+    ), "{told}");
+    let told = by_calendar("try", text, "--try '24 cut'");
+    assert_eq!(
+        told,
+        format!(
+            "Account 0 of 1, tried with nothing changed. Sums are in dollars.\n{heading}\
+day  date        event           owed  answer
+ 24  2000-01-25  disconnection  75.00  would be refused 12: no live final notice, or it is too new or too old
+                                         2 working days after the notice of day 20 (2000-01-21): 2000-01-23, 2000-01-25; 5 are wanted
+"
+        )
+    );
+    let told = by_calendar("csv", NOTICED, "--csv");
+    let expected = "\
+day,date,event,option,amount,answer,receipt,added,owed,reason
+0,2000-01-01,bill,0,6000,0,,0,6000,
+20,2000-01-21,notice,0,0,0,,1500,7500,
+26,2000-01-27,call,0,0,0,,0,7500,
+27,2000-01-28,cut,0,0,0,,0,7500,
+28,2000-01-29,cut,0,0,5,,0,7500,service is not on
+";
+    assert_eq!(told, expected);
+}
+
+#[test]
+fn a_day_outside_the_calendar_is_told_with_its_days() {
+    let text =
+        b"account\n 0 bill 6000\n 19 notice\n 19 bill 1\n 2067 notice\n 2068 notice\n 2068 call\n";
+    let told = by_calendar("outside", text, "");
+    let refused = "refused 24: the day lies outside the account's calendar\n";
+    let days = " the calendar has day 20 (2000-01-21) to day 2067 (2005-08-29)\n";
+    let lines: Vec<&str> = told.split_inclusive('\n').collect();
+    assert!(
+        lines[5].ends_with(refused) && lines[6].ends_with(days),
+        "{told}"
+    );
+    assert!(
+        lines[7].ends_with(" accepted, 0.45 late charge added\n"),
+        "{told}"
+    );
+    assert!(lines[8].contains("  accepted, "), "{told}");
+    assert!(
+        lines[9].ends_with(refused) && lines[10].ends_with(days),
+        "{told}"
+    );
+    assert!(lines[11].ends_with("  accepted\n"), "{told}");
+    let told = by_calendar("outside", text, "--on 2068");
+    assert!(
+        told.ends_with(&format!(
+            "\ndisconnection        not allowed, {refused}                      {days}"
+        )),
+        "{told}"
+    );
+}
+
+/// What stands in the file of a calendar, between its lines a stroke, and what is told of it.
+const NO_CALENDAR: &str = "\
+# nothing => there is no line `first`
+first 20 => there is no line `week`
+first 20/week mon tues => line 2: `tues` is no weekday; they are sat, sun, mon, tue, wed, thu, fri
+first 20/# x/off 19 => line 3: day 19 (2000-01-20) lies outside the calendar, day 20 (2000-01-21) to day 2067 (2005-08-29)";
+
+#[test]
+fn what_is_no_calendar_is_told_with_its_file_and_line() {
+    let folder = office("no-calendar");
+    let told = |bytes: &[u8]| {
+        fs::write(folder.join("office"), bytes).unwrap();
+        let line = "hollupaq why - --calendar office";
+        complaint(&shell(line, &folder, &pack(TEXT)), 1)
+    };
+    for line in NO_CALENDAR.lines() {
+        let (text, reason) = line.split_once(" => ").unwrap();
+        let expected = format!("hollupaq why: office: {reason}\n");
+        assert_eq!(told(text.replace('/', "\n").as_bytes()), expected);
+    }
+    assert!(told(b"first \xff")
+        .ends_with(" line 1: expected the day as a date or a whole number, found `\u{fffd}`\n"));
+}
+
+/// The help and README show the same calendar, with a remark in each line.
+#[test]
+fn the_calendar_that_is_shown_is_one() {
+    let folder = folder("shown");
+    let help = printed(run("why --help", b""));
+    let readme = concat!(env!("CARGO_MANIFEST_DIR"), "/../README.md");
+    for text in [help, fs::read_to_string(readme).unwrap()] {
+        let lines = text.lines().map(str::trim_start);
+        let is_one = |line: &&str| {
+            let word = line.split(' ').next().unwrap();
+            ["first", "week", "off", "on"].contains(&word) && line.contains(" # ")
+        };
+        let lines: Vec<&str> = lines.filter(is_one).collect();
+        assert_eq!(lines.len(), 4, "{lines:?}");
+        fs::write(folder.join("shown"), lines.join("\n")).unwrap();
+        let line = "hollupaq why - --calendar shown";
+        let told = printed(shell(line, &folder, &pack(TEXT)));
+        let days = "Its calendar has day 9497 (2026-01-01) to day 11544 (2031-08-10).";
+        assert!(told.contains(days), "{told}");
+    }
+}
+
+#[test]
+fn a_calendar_that_can_not_be_read_is_told() {
+    let folder = office("unreadable");
+    fs::write(folder.join("a.book"), pack(TEXT)).unwrap();
+    let told = |line: &str| complaint(&shell(line, &folder, &pack(TEXT)), 1);
+    for (file, reason) in [
+        ("nowhere", "can't read nowhere: No such file or directory"),
+        (".", "can't read .: Is a directory"),
+        ("''", "can't read '': No such file or directory"),
+    ] {
+        let told = told(&format!("hollupaq why a.book --calendar {file}"));
+        assert_eq!(told, format!("hollupaq why: {reason}\n"));
+    }
+    // The book comes first.
+    let told = told("hollupaq why nothing --calendar nowhere");
+    assert!(told.contains(" can't read nothing: "), "{told}");
+}
+
+#[test]
+fn a_calendar_may_be_standard_input() {
+    let folder = office("input");
+    fs::write(folder.join("a.book"), pack(NOTICED)).unwrap();
+    let told = printed(shell(
+        "hollupaq why a.book --calendar=-",
+        &folder,
+        OFFICE.as_bytes(),
+    ));
+    assert_eq!(
+        told,
+        printed(shell("hollupaq why a.book --calendar office", &folder, b""))
+    );
+    assert!(told.contains("\nIts calendar has day 20 "), "{told}");
+}
+
+/// The name of a calendar's file may be any bytes, as that of a book.
+#[cfg(unix)]
+#[test]
+fn a_calendar_s_name_may_be_any_bytes() {
+    use std::ffi::OsStr;
+    use std::os::unix::ffi::OsStrExt;
+    let folder = office("calendar-name");
+    let path = folder.join(OsStr::from_bytes(b"b\xfcro.calendar"));
+    fs::rename(folder.join("office"), &path).unwrap();
+    fs::write(folder.join("a.book"), pack(NOTICED)).unwrap();
+    let mut command = std::process::Command::new(run::PROGRAM);
+    command.arg("why").arg(folder.join("a.book"));
+    let told = printed(command.arg("--calendar").arg(path).output().unwrap());
+    assert!(told.contains("\nIts calendar has day 20 "), "{told}");
 }

@@ -1,5 +1,5 @@
 //! Accounts that the caller keeps and posts to, one event at a time.
-use super::lent::{self, ACCEPTED, WORDS};
+use super::lent::{self, ACCEPTED, CALENDAR_WORDS, WORDS};
 use crate::event::Event;
 use crate::service::Service;
 
@@ -7,6 +7,14 @@ use crate::service::Service;
 #[derive(Clone, Debug, PartialEq, Eq)]
 pub struct Account {
     words: [u64; WORDS],
+}
+
+/// A calendar that an account may be begun with: its first day, and a bit for each of its days in order, lowest bit first, set for
+/// a working day.
+#[derive(Clone, Debug, PartialEq, Eq)]
+pub struct Calendar {
+    pub first: u32,
+    pub bits: [u64; CALENDAR_WORDS],
 }
 
 /// Accounts that lie one after another in one memory.
@@ -20,7 +28,7 @@ pub struct Accounts {
 pub enum Answer {
     /// With the receipt of a payment, which its till counts, or 0 for any other event.
     Accepted(u64),
-    /// With the number of the rule, 1 to 19; or 0 where no account was lent.
+    /// With the number of the rule, 1 to 19 or 24; or 0 where no account was lent.
     Refused(u8),
 }
 
@@ -56,6 +64,14 @@ impl Account {
     pub fn fresh() -> Account {
         let mut words = [0; WORDS];
         assert_eq!(lent::fresh(&mut words), 1, "the library has other accounts");
+        Account { words }
+    }
+
+    /// The same with a calendar, of any first day and any bits.
+    pub fn begin(calendar: &Calendar) -> Account {
+        let mut words = [0; WORDS];
+        let begun = lent::begin(&mut words, calendar.first, &calendar.bits);
+        assert_eq!(begun, 1, "the library has other accounts or calendars");
         Account { words }
     }
 
@@ -134,6 +150,11 @@ impl Account {
     /// Whether a medical certificate is live on a day.
     pub fn certified(&self, day: u32) -> Result<bool, u8> {
         told(lent::certified(&self.words, day)).map(|yes| yes == 1)
+    }
+
+    /// The working days of its calendar after one day and up to another, which is counted: none where it has no calendar.
+    pub fn working_days(&self, after: u32, to: u32) -> Option<u64> {
+        told(lent::working_days(&self.words, after, to)).ok()
     }
 
     /// The account as it lies in memory, for keeping it elsewhere.

@@ -3,10 +3,14 @@
 use crate::event::Event;
 
 /// How many words of 64 bits an account takes. include/hollupaq.h has the same number.
-pub const WORDS: usize = 240;
+pub const WORDS: usize = 274;
 
 /// The number of the layout, with which an account begins.
-pub const LAYOUT: u64 = 1_000_002;
+pub const LAYOUT: u64 = 1_000_003;
+
+/// The words of a calendar's bits, and its days.
+pub const CALENDAR_WORDS: usize = 32;
+pub const CALENDAR_DAYS: u32 = 2_048;
 
 /// An answer from here on is an acceptance, and what is above it the receipt of a payment, or what is told for a day. One below
 /// is a refusal.
@@ -16,6 +20,13 @@ extern "C" {
     // A slice of the core passes as its pointer and its length.
     fn hollupaq_words() -> u64;
     fn hollupaq_fresh(account: *mut u64, words: usize) -> u8;
+    fn hollupaq_begin(
+        account: *mut u64,
+        words: usize,
+        first: u32,
+        bits: *const u64,
+        bits_len: usize,
+    ) -> u8;
     fn hollupaq_ok(account: *const u64, words: usize) -> u8;
     fn hollupaq_post(
         account: *mut u64,
@@ -53,6 +64,7 @@ extern "C" {
     fn hollupaq_in_force(account: *const u64, words: usize, day: u32) -> u64;
     fn hollupaq_notice_live(account: *const u64, words: usize, day: u32) -> u64;
     fn hollupaq_certified(account: *const u64, words: usize, day: u32) -> u64;
+    fn hollupaq_working_days(account: *const u64, words: usize, after: u32, to: u32) -> u64;
 }
 
 // SAFETY of every call here: the slice is valid for its length while the call lasts, whatever its words are. Nobody else
@@ -66,6 +78,13 @@ pub fn words() -> u64 {
 /// Makes the memory an account without events: 1, or 0 where its length is not that of an account.
 pub fn fresh(account: &mut [u64]) -> u8 {
     unsafe { hollupaq_fresh(account.as_mut_ptr(), account.len()) }
+}
+
+/// Makes the memory an account without events that has a calendar, from a first day on a bit for each day, lowest bit first: 1,
+/// or 0 where its length is not that of an account, or that of the bits not that of a calendar.
+pub fn begin(account: &mut [u64], first: u32, bits: &[u64]) -> u8 {
+    let (at, words) = (account.as_mut_ptr(), account.len());
+    unsafe { hollupaq_begin(at, words, first, bits.as_ptr(), bits.len()) }
 }
 
 /// Whether the memory is an account, 1 or 0.
@@ -150,4 +169,10 @@ pub fn notice_live(account: &[u64], day: u32) -> u64 {
 /// Whether a medical certificate is live on a day.
 pub fn certified(account: &[u64], day: u32) -> u64 {
     unsafe { hollupaq_certified(account.as_ptr(), account.len(), day) }
+}
+
+/// The working days of the account's calendar after one day and up to another, which is counted: [`ACCEPTED`] and their count, or 0
+/// where the account has no calendar.
+pub fn working_days(account: &[u64], after: u32, to: u32) -> u64 {
+    unsafe { hollupaq_working_days(account.as_ptr(), account.len(), after, to) }
 }

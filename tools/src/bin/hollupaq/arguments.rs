@@ -23,8 +23,8 @@ impl Choice {
 #[derive(Debug, Default, PartialEq, Eq)]
 pub struct Given {
     names: Vec<OsString>,
-    /// The option with its value, empty where it has none.
-    pub choice: Option<(&'static str, String)>,
+    /// The options with their values, empty where they have none.
+    chosen: Vec<(&'static str, OsString)>,
 }
 
 impl Given {
@@ -47,6 +47,13 @@ impl Given {
         self.number(at, "CLASS is the number of a class")
     }
 
+    /// What follows an option, where it is given.
+    pub fn value(&self, option: &Choice) -> Option<&OsStr> {
+        let mut chosen = self.chosen.iter();
+        let (_, value) = chosen.find(|(name, _)| *name == option.name)?;
+        Some(value)
+    }
+
     /// A file, standard input or output where none is named.
     pub fn file(&self, at: usize) -> &OsStr {
         self.name(at).unwrap_or(OsStr::new("-"))
@@ -66,9 +73,8 @@ pub fn read(command: &Command, words: &[OsString]) -> Result<Given, String> {
         if word == "--" {
             given.names.extend(words.by_ref().cloned());
         } else if word != "-" && word.to_string_lossy().starts_with('-') {
-            let next = || words.next().map(|word| word.to_string_lossy().into());
-            let choice = choice(command, &word.to_string_lossy(), next)?;
-            given.choose(choice)?;
+            let next = || words.next().cloned();
+            choose(command, &word.to_string_lossy(), next, &mut given)?;
         } else {
             given.names.push(word.clone());
         }
@@ -77,39 +83,36 @@ pub fn read(command: &Command, words: &[OsString]) -> Result<Given, String> {
     Ok(given)
 }
 
-/// An option with its value, which is the next word or follows `=`.
-fn choice(
+/// An option with its value, which is the next word or follows `=`. A file's name that is no text can be the next word.
+fn choose(
     command: &Command,
     word: &str,
-    next: impl FnOnce() -> Option<String>,
-) -> Result<(&'static str, String), String> {
+    next: impl FnOnce() -> Option<OsString>,
+    given: &mut Given,
+) -> Result<(), String> {
     let (name, value) = match word.split_once('=') {
-        Some((name, value)) => (name, Some(value.to_string())),
+        Some((name, value)) => (name, Some(value.into())),
         None => (word, None),
     };
-    let Some(choice) = command.choices.iter().find(|choice| choice.name == name) else {
-        return Err(format!("`{}` is not known", shown(name)));
-    };
+    let found = command.choices.iter().find_map(|group| {
+        let choice = group.iter().find(|choice| choice.name == name)?;
+        Some((group, choice))
+    });
+    let (group, choice) = found.ok_or_else(|| format!("`{}` is not known", shown(name)))?;
     let name = choice.name;
-    match (choice.value, value) {
-        ("", None) => Ok((name, String::new())),
-        ("", Some(_)) => Err(format!("nothing follows {name}")),
-        (what, value) => match value.or_else(next) {
-            Some(value) => Ok((name, value)),
-            None => Err(format!("{what} is missing after {name}")),
-        },
-    }
-}
-
-impl Given {
-    fn choose(&mut self, choice: (&'static str, String)) -> Result<(), String> {
-        match &self.choice {
-            Some((name, _)) if *name == choice.0 => Err(format!("{name} is given twice")),
-            Some((name, _)) => Err(format!("{name} and {} do not go together", choice.0)),
-            None => {
-                self.choice = Some(choice);
-                Ok(())
-            }
+    let value = match (choice.value, value) {
+        ("", None) => OsString::new(),
+        ("", Some(_)) => return Err(format!("nothing follows {name}")),
+        (what, value) => value
+            .or_else(next)
+            .ok_or_else(|| format!("{what} is missing after {name}"))?,
+    };
+    match group.iter().find(|choice| given.value(choice).is_some()) {
+        Some(other) if other.name == name => Err(format!("{name} is given twice")),
+        Some(other) => Err(format!("{} and {name} do not go together", other.name)),
+        None => {
+            given.chosen.push((name, value));
+            Ok(())
         }
     }
 }
@@ -143,7 +146,10 @@ mod tests {
     const COMMAND: Command = Command {
         name: "name",
         takes: &["BOOK", "[N]"],
-        choices: &[an_option("--on", "DAY"), an_option("--csv", "")],
+        choices: &[
+            &[an_option("--on", "DAY"), an_option("--csv", "")],
+            &[an_option("--calendar", "FILE")],
+        ],
         about: "",
         more: "",
         run: |_| Ok(()),
@@ -159,11 +165,22 @@ mod tests {
         for words in ["a 1 --on 5", "--on 5 a 1", "a --on=5 1", "--on=5 -- a 1"] {
             let given = given(words).unwrap();
             assert_eq!(given.names, ["a", "1"], "{words}");
-            assert_eq!(given.choice, Some(("--on", "5".to_string())), "{words}");
+            assert_eq!(given.chosen, [("--on", "5".into())], "{words}");
         }
         assert_eq!(given("- --csv").unwrap().names, ["-"]);
         assert_eq!(given("-- --csv").unwrap().names, ["--csv"]);
-        assert_eq!(given("--on -5 a").unwrap().choice.unwrap().1, "-5");
+        assert_eq!(given("--on -5 a").unwrap().chosen, [("--on", "-5".into())]);
+    }
+
+    #[test]
+    fn one_option_of_each_group_is_given() {
+        let [csv, calendar] = [an_option("--csv", ""), an_option("--calendar", "FILE")];
+        for words in ["a --csv --calendar b", "--calendar=b a --csv"] {
+            let given = given(words).unwrap();
+            assert_eq!(given.value(&csv), Some(OsStr::new("")), "{words}");
+            assert_eq!(given.value(&calendar), Some(OsStr::new("b")), "{words}");
+        }
+        assert_eq!(given("a --calendar b").unwrap().value(&csv), None);
     }
 
     #[test]
@@ -177,6 +194,11 @@ mod tests {
             ("a --csv=5", "nothing follows --csv"),
             ("a --csv --csv", "--csv is given twice"),
             ("a --csv --on 5", "--csv and --on do not go together"),
+            ("a --calendar", "FILE is missing after --calendar"),
+            (
+                "a --calendar b --csv --calendar=b",
+                "--calendar is given twice",
+            ),
             ("a -\u{1b}[2J", "`-\\u{1b}[2J` is not known"),
         ];
         for (words, reason) in wrong {
@@ -196,7 +218,7 @@ mod tests {
 
     #[test]
     fn the_usage_is_made_of_the_same_table() {
-        let usage = "hollupaq name BOOK [N] [--on DAY | --csv]";
+        let usage = "hollupaq name BOOK [N] [--on DAY | --csv] [--calendar FILE]";
         assert_eq!(COMMAND.usage(), usage);
     }
 }

@@ -8,8 +8,8 @@ pub struct Command {
     pub name: &'static str,
     /// What it takes, in order; one that may be left out stands in brackets.
     pub takes: &'static [&'static str],
-    /// The options; at most one of them is given in a call.
-    pub choices: &'static [Choice],
+    /// The options in groups; of each at most one is given in a call.
+    pub choices: &'static [&'static [Choice]],
     /// What it does, in a line of the list of all commands.
     pub about: &'static str,
     /// What else its own help tells.
@@ -46,8 +46,8 @@ impl Command {
         for name in self.takes {
             line += &format!(" {name}");
         }
-        let choices: Vec<String> = self.choices.iter().map(Choice::written).collect();
-        if !choices.is_empty() {
+        for group in self.choices {
+            let choices: Vec<String> = group.iter().map(Choice::written).collect();
             line += &format!(" [{}]", choices.join(" | "));
         }
         line

@@ -111,7 +111,7 @@ fn keep_owner(file: &File, old: &Metadata) {
 fn keep_owner(_: &File, _: &Metadata) {}
 
 /// A name as messages show it. An empty one is seen by its quotes.
-fn told(name: &OsStr) -> String {
+pub fn told(name: &OsStr) -> String {
     match name.is_empty() {
         true => "''".to_string(),
         false => shown(&name.to_string_lossy()),

@@ -51,6 +51,8 @@ pub fn of_command(command: &Command) -> String {
     let rows = command
         .choices
         .iter()
+        .copied()
+        .flatten()
         .map(|choice| two(format!("  {}", choice.written()), choice.about));
     let rows: Vec<Row> = rows.collect();
     if !rows.is_empty() {
