@@ -29,6 +29,8 @@
          (WRITE, uint8_t, out)) \
     CALL(1, uint64_t, hollupaq_words, (NOTHING, , )) \
     CALL(1, uint8_t, hollupaq_fresh, (WRITE, uint64_t, account)) \
+    CALL(3, uint8_t, hollupaq_begin, (WRITE, uint64_t, account), (NUMBER, uint32_t, first), \
+         (READ, uint64_t, bits)) \
     CALL(1, uint8_t, hollupaq_ok, (READ, uint64_t, account)) \
     CALL(5, uint64_t, hollupaq_post, (WRITE, uint64_t, account), (NUMBER, uint8_t, kind), \
          (NUMBER, uint8_t, option), (NUMBER, uint32_t, day), (NUMBER, uint64_t, amount)) \
@@ -48,6 +50,8 @@
     CALL(2, uint64_t, hollupaq_in_force, (READ, uint64_t, account), (NUMBER, uint32_t, day)) \
     CALL(2, uint64_t, hollupaq_notice_live, (READ, uint64_t, account), (NUMBER, uint32_t, day)) \
     CALL(2, uint64_t, hollupaq_certified, (READ, uint64_t, account), (NUMBER, uint32_t, day)) \
+    CALL(3, uint64_t, hollupaq_working_days, (READ, uint64_t, account), (NUMBER, uint32_t, after), \
+         (NUMBER, uint32_t, to)) \
     CALL(2, uint64_t, hollupaq_bill, (NUMBER, uint8_t, rate_class), (NUMBER, uint64_t, usage)) \
     CALL(3, uint64_t, hollupaq_bill_used, (NUMBER, uint8_t, rate_class), (NUMBER, uint64_t, usage), \
          (NUMBER, size_t, i)) \

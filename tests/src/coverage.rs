@@ -1,5 +1,5 @@
 //! What the histories reached: which answers to which kinds, and both sides of the bounds.
-use crate::edges::{Case, EDGES};
+use crate::edges::{Case, Edge, CALENDAR_EDGES, EDGES};
 use crate::peer::kind::*;
 use crate::peer::money::Money;
 use crate::peer::Posted;
@@ -23,25 +23,120 @@ pub fn concerns(number: u8, kind: u8) -> bool {
         16 | 17 => kind == RECONNECTION,
         18 => [BILL, RETURNED, FEE, NOTICE, RECONNECTION].contains(&kind),
         19 => concerns(18, kind) || [PAYMENT, DEPOSIT_MOVED, CLOSE].contains(&kind),
+        24 => [NOTICE, CUT].contains(&kind),
         _ => false,
     }
 }
 
-pub struct Coverage {
+/// What the events reached that were posted to accounts of one sort, those without a calendar or those with one.
+struct Reached {
     /// How often a number, 0 for accepted, was the answer to a kind.
     answers: BTreeMap<(u8, u8), usize>,
+    edges: &'static [Edge],
+    /// How often each of the bounds was met, in the order of their list.
+    met: Vec<usize>,
+}
+
+impl Reached {
+    fn of(edges: &'static [Edge]) -> Reached {
+        Reached {
+            answers: BTreeMap::new(),
+            edges,
+            met: vec![0; edges.len()],
+        }
+    }
+
+    fn note(&mut self, events: &[Event], posted: &Posted) {
+        let mut before = 0;
+        for (&event, &answer) in events.iter().zip(&posted.answers) {
+            *self.answers.entry((answer, event.kind)).or_default() += 1;
+            let accepted = &posted.accepted[..before];
+            let case = Case {
+                calendar: posted.calendar.as_ref(),
+                accepted,
+                money: &Money::of(accepted),
+                event,
+                answer,
+            };
+            for (count, (_, met)) in self.met.iter_mut().zip(self.edges) {
+                *count += usize::from(met(&case));
+            }
+            before += usize::from(answer == 0);
+        }
+    }
+
+    fn times(&self, number: u8, kind: u8) -> usize {
+        self.answers.get(&(number, kind)).copied().unwrap_or(0)
+    }
+
+    fn accepted(&self, kind: u8) -> usize {
+        self.times(0, kind)
+    }
+
+    fn refused(&self, number: u8) -> usize {
+        let of_number = self.answers.iter().filter(|((n, _), _)| *n == number);
+        of_number.map(|(_, count)| count).sum()
+    }
+
+    /// The kinds that were never accepted.
+    fn never_accepted(&self) -> Vec<String> {
+        let kinds = (1..=16).filter(|&kind| self.accepted(kind) == 0);
+        kinds.map(|kind| show::name(kind).into()).collect()
+    }
+
+    fn never_met(&self) -> Vec<String> {
+        let edges = self.met.iter().zip(self.edges);
+        let never = edges.filter(|(times, _)| **times == 0);
+        never.map(|(_, (name, _))| String::from(*name)).collect()
+    }
+
+    /// How often each of these numbers refused each of these kinds that it concerns, the rarest first.
+    fn pairs(&self, numbers: &[u8], kinds: &[u8]) -> Vec<(usize, String)> {
+        let all = numbers
+            .iter()
+            .flat_map(|&number| kinds.iter().map(move |&kind| (number, kind)));
+        let concerned = all.filter(|&(number, kind)| concerns(number, kind));
+        let mut pairs: Vec<(usize, String)> = concerned
+            .map(|(number, kind)| {
+                let pair = format!("{number} for a {}", show::name(kind));
+                (self.times(number, kind), pair)
+            })
+            .collect();
+        pairs.sort();
+        pairs
+    }
+
+    fn print_bounds(&self) {
+        for (times, (name, _)) in self.met.iter().zip(self.edges) {
+            println!("  {:70} {:>11}", name, show::count(*times));
+        }
+    }
+}
+
+fn never(pairs: Vec<(usize, String)>) -> Vec<String> {
+    let never = pairs.into_iter().filter(|(times, _)| *times == 0);
+    never.map(|(_, pair)| pair).collect()
+}
+
+/// The numbers that refuse an event whether there is a calendar or not.
+const NUMBERS: [u8; 19] = [
+    1, 2, 3, 4, 5, 6, 7, 8, 9, 10, 11, 12, 13, 14, 15, 16, 17, 18, 19,
+];
+const KINDS: [u8; 16] = [1, 2, 3, 4, 5, 6, 7, 8, 9, 10, 11, 12, 13, 14, 15, 16];
+
+pub struct Coverage {
+    without_calendar: Reached,
+    with_calendar: Reached,
     /// How often a book was refused with a number, 0 for accepted.
     books: BTreeMap<u8, usize>,
-    /// How often each of the bounds was met, in the order of their list.
-    edges: Vec<usize>,
 }
 
 impl Default for Coverage {
     fn default() -> Coverage {
         Coverage {
-            answers: BTreeMap::new(),
+            without_calendar: Reached::of(&EDGES),
+            with_calendar: Reached::of(&CALENDAR_EDGES),
             books: BTreeMap::new(),
-            edges: vec![0; EDGES.len()],
         }
     }
 }
@@ -49,20 +144,9 @@ impl Default for Coverage {
 impl Coverage {
     /// Counts what a history reached.
     pub fn history(&mut self, events: &[Event], posted: &Posted) {
-        let mut before = 0;
-        for (&event, &answer) in events.iter().zip(&posted.answers) {
-            *self.answers.entry((answer, event.kind)).or_default() += 1;
-            let accepted = &posted.accepted[..before];
-            let case = Case {
-                accepted,
-                money: &Money::of(accepted),
-                event,
-                answer,
-            };
-            for (count, (_, met)) in self.edges.iter_mut().zip(EDGES) {
-                *count += usize::from(met(&case));
-            }
-            before += usize::from(answer == 0);
+        match posted.calendar {
+            None => self.without_calendar.note(events, posted),
+            Some(_) => self.with_calendar.note(events, posted),
         }
     }
 
@@ -76,105 +160,92 @@ impl Coverage {
         *self.books.entry(number).or_default() += 1;
     }
 
-    fn accepted(&self, kind: u8) -> usize {
-        self.answers.get(&(0, kind)).copied().unwrap_or(0)
-    }
-
-    fn refused(&self, number: u8) -> usize {
-        let of_number = self.answers.iter().filter(|((n, _), _)| *n == number);
-        of_number.map(|(_, count)| count).sum()
-    }
-
     fn books_refused(&self, number: u8) -> usize {
         self.books.get(&number).copied().unwrap_or(0)
     }
 
     pub fn print(&self) {
-        println!("accepted, by kind:");
-        for kind in 1..=16 {
-            let times = show::count(self.accepted(kind));
-            println!("  {kind:2} {:15} {times:>11}", show::name(kind));
-        }
-        println!("refused, by number:");
-        for number in 1..=19 {
-            println!("  {number:2} {:>27}", show::count(self.refused(number)));
-        }
-        for number in [20, 21] {
+        println!("accepted, by kind, without a calendar and with one:");
+        let (without, with) = (&self.without_calendar, &self.with_calendar);
+        for kind in KINDS {
+            let times = [without, with].map(|reached| show::count(reached.accepted(kind)));
+            let [without, with] = times;
             println!(
-                "  {number:2} {:>27}",
-                show::count(self.books_refused(number))
+                "  {kind:2} {:15} {without:>11} {with:>11}",
+                show::name(kind)
             );
         }
+        println!("refused, by number, without a calendar and with one:");
+        for number in (1..=19).chain([24]) {
+            let times = [without, with].map(|reached| show::count(reached.refused(number)));
+            let [without, with] = times;
+            println!("  {number:2} {without:>27} {with:>11}");
+        }
+        for number in [20, 21] {
+            let times = show::count(self.books_refused(number));
+            println!("  {number:2} {times:>27}");
+        }
         println!("rarest of a number and a kind that it concerns:");
-        for (times, pair) in self.pairs().into_iter().take(5) {
+        let pairs = without.pairs(&NUMBERS, &KINDS).into_iter().take(5);
+        let calendar = self.calendar_pairs().into_iter().take(5);
+        for (times, pair) in pairs.chain(calendar) {
             println!("  {pair:18} {:>11}", show::count(times));
         }
         println!("bounds met:");
-        for (times, (name, _)) in self.edges.iter().zip(EDGES) {
-            println!("  {:62} {:>11}", name, show::count(*times));
-        }
+        without.print_bounds();
+        println!("bounds met with a calendar:");
+        with.print_bounds();
+    }
+
+    /// Of final notices and disconnections, which alone look at a calendar.
+    fn calendar_pairs(&self) -> Vec<(usize, String)> {
+        let numbers = [&NUMBERS[..], &[24]].concat();
+        self.with_calendar.pairs(&numbers, &[NOTICE, CUT])
     }
 
     /// Each thing asked of the histories, with what of it they did not reach.
     pub fn demands(&self) -> Vec<(String, Vec<String>)> {
-        let kinds = (1..=16).filter(|&kind| self.accepted(kind) == 0);
-        let numbers = (1..=19).filter(|&number| self.refused(number) == 0);
+        let (without, with) = (&self.without_calendar, &self.with_calendar);
+        let numbers = NUMBERS.iter().filter(|&&n| without.refused(n) == 0);
         let books = [20, 21].into_iter().filter(|&n| self.books_refused(n) == 0);
-        let edges = self
-            .edges
-            .iter()
-            .zip(EDGES)
-            .filter(|(times, _)| **times == 0);
-        let named = |text: &str, missing: Vec<String>| (String::from(text), missing);
-        vec![
-            named(
-                "every kind is accepted",
-                kinds.map(|k| show::name(k).into()).collect(),
-            ),
-            named(
+        let demands = [
+            ("every kind is accepted", without.never_accepted()),
+            (
                 "every number refuses an event",
                 numbers.map(|n| n.to_string()).collect(),
             ),
-            named(
+            (
                 "20 and 21 refuse a book",
                 books.map(|n| n.to_string()).collect(),
             ),
-            named(
+            (
                 "every number refuses every kind that it concerns",
-                self.missing_pairs(),
+                never(without.pairs(&NUMBERS, &KINDS)),
             ),
-            named(
-                "both sides of every bound are met",
-                edges.map(|(_, e)| e.0.into()).collect(),
+            ("both sides of every bound are met", without.never_met()),
+            (
+                "every kind is accepted with a calendar",
+                with.never_accepted(),
             ),
-        ]
-    }
-
-    /// How often each number refused each kind that it concerns, the rarest first.
-    fn pairs(&self) -> Vec<(usize, String)> {
-        let all = (1..=19).flat_map(|number| (1..=16).map(move |kind| (number, kind)));
-        let concerned = all.filter(|&(number, kind)| concerns(number, kind));
-        let mut pairs: Vec<(usize, String)> = concerned
-            .map(|(number, kind)| {
-                let times = self.answers.get(&(number, kind)).copied().unwrap_or(0);
-                (times, format!("{number} for a {}", show::name(kind)))
-            })
-            .collect();
-        pairs.sort();
-        pairs
-    }
-
-    fn missing_pairs(&self) -> Vec<String> {
-        let missing = self.pairs().into_iter().filter(|(times, _)| *times == 0);
-        missing.map(|(_, pair)| pair).collect()
+            (
+                "every number that concerns a final notice or a cut refuses it with a calendar",
+                never(self.calendar_pairs()),
+            ),
+            (
+                "both sides of every bound of a calendar are met",
+                with.never_met(),
+            ),
+        ];
+        let named = |(text, missing): (&str, Vec<String>)| (String::from(text), missing);
+        demands.map(named).into()
     }
 }
 
 #[cfg(test)]
 mod tests {
     use super::*;
-    use crate::make::{bill, cut};
-    use crate::peer::post_all;
+    use crate::make::{bill, calendar, cut};
+    use crate::peer::{post_all, post_all_by};
 
     fn missing(coverage: &Coverage) -> Vec<usize> {
         let demands = coverage.demands().into_iter();
@@ -184,11 +255,20 @@ mod tests {
     #[test]
     fn what_is_not_reached_is_missing() {
         let mut coverage = Coverage::default();
-        assert_eq!(missing(&coverage), [16, 19, 2, PAIRS, EDGES.len()]);
+        let (edges, of_calendars) = (EDGES.len(), CALENDAR_EDGES.len());
+        let with = [16, CALENDAR_PAIRS, of_calendars];
+        let nothing = [&[16, 19, 2, PAIRS, edges][..], &with].concat();
+        assert_eq!(missing(&coverage), nothing);
         let events = [bill(0, 133), bill(0, 1), cut(0)];
         coverage.history(&events, &post_all(&events));
         // A bill is accepted, 10 refuses, and refuses a cut; the second bill is one at 133 owed.
-        assert_eq!(missing(&coverage), [15, 18, 2, PAIRS - 1, EDGES.len() - 1]);
+        let without = [15, 18, 2, PAIRS - 1, edges - 1];
+        assert_eq!(missing(&coverage), [&without[..], &with].concat());
+        // With a calendar that begins on the next day, 24 refuses the cut and not 10.
+        let later = calendar(1, |_| true);
+        coverage.history(&events, &post_all_by(Some(&later), &events));
+        let with = [15, CALENDAR_PAIRS - 1, of_calendars - 2];
+        assert_eq!(missing(&coverage), [&without[..], &with].concat());
         coverage.book(b"book refused 21\n");
         coverage.book(b"account owed held open service refused\n");
         assert_eq!(missing(&coverage)[2], 1);
@@ -197,10 +277,15 @@ mod tests {
     #[test]
     fn a_pair_is_one_of_the_table() {
         let coverage = Coverage::default();
-        assert_eq!(coverage.pairs().len(), PAIRS);
-        assert!(!concerns(0, BILL) && !concerns(20, BILL));
+        let pairs = coverage.without_calendar.pairs(&NUMBERS, &KINDS);
+        assert_eq!(pairs.len(), PAIRS);
+        assert_eq!(coverage.calendar_pairs().len(), CALENDAR_PAIRS);
+        assert!(!concerns(0, BILL) && !concerns(20, BILL) && !concerns(24, CALL));
     }
 
     /// Document 01's table: 1 to 3 concern all kinds, 4 all but three, and so on.
     const PAIRS: usize = 3 * 16 + 13 + 4 + 1 + 4 + 1 + 1 + 2 + 1 + 4 + 2 + 5 + 8;
+
+    /// 1 to 5, 10 and 24 concern both kinds, 11, 18 and 19 a final notice, 12 to 15 a cut.
+    const CALENDAR_PAIRS: usize = 7 * 2 + 3 + 4;
 }

@@ -1,5 +1,8 @@
 //! The bounds of the rules, each as a question about an event and its answer.
+mod calendar;
+
 use crate::peer::arrangement::{stands, Arrangement};
+use crate::peer::calendar::Calendar;
 use crate::peer::collection::{called, live_notice};
 use crate::peer::deposit::{full_since, held, in_a_year, required};
 use crate::peer::kind::*;
@@ -9,17 +12,21 @@ use crate::peer::rows::{refusal, LARGEST_TOTAL};
 use crate::peer::{medical, receipts, LAST_DAY};
 use tools::event::Event;
 
+pub use calendar::CALENDAR_EDGES;
+
 /// An event with what was accepted before it and with its answer.
 pub struct Case<'a> {
+    /// Of the account, where it has one.
+    pub calendar: Option<&'a Calendar>,
     pub accepted: &'a [Event],
     pub money: &'a Money,
     pub event: Event,
     pub answer: u8,
 }
 
-type Edge = (&'static str, fn(&Case) -> bool);
+pub type Edge = (&'static str, fn(&Case) -> bool);
 
-/// A name for each bound and what meets it.
+/// A name for each bound and what meets it, of events posted to an account without a calendar.
 pub const EDGES: [Edge; 87] = [
     ("final notice at arrears of 5,000", |c| {
         c.is(NOTICE, 0) && c.arrears() == 5_000
@@ -501,7 +508,7 @@ impl Case<'_> {
             option,
             ..self.event
         };
-        (0..TILLS).any(|till| refusal(self.accepted, at(till)) == 0)
+        (0..TILLS).any(|till| refusal(self.calendar, self.accepted, at(till)) == 0)
     }
 
     fn item(&self) -> Option<i64> {

@@ -3,12 +3,14 @@
 //! Most events are chosen by what the peer sees in the events accepted so far, so that a payment leaves exactly the
 //! arrears that a notice still wants, or one cent less.
 
+mod calendars;
 mod guided;
 mod modes;
 mod walk;
 
+use crate::peer::calendar::Calendar;
 use crate::peer::money::Money;
-use crate::peer::Posted;
+use crate::peer::{post_all, post_all_by, Posted};
 use crate::random::Random;
 use tools::event::Event;
 
@@ -22,6 +24,11 @@ pub struct Writer<'a> {
 }
 
 impl Writer<'_> {
+    /// Gives the account its calendar, before any event.
+    pub fn begin(&mut self, calendar: Calendar) {
+        self.posted = Posted::begun(Some(calendar));
+    }
+
     /// Writes an event and says whether the peer accepts it.
     pub fn post(&mut self, event: Event) -> bool {
         self.events.push(event);
@@ -56,7 +63,10 @@ impl Writer<'_> {
 pub struct History {
     pub mode: usize,
     pub events: Vec<Event>,
+    /// On an account without a calendar, as those of a book are.
     pub posted: Posted,
+    /// On one that was begun with the history's calendar.
+    pub with_calendar: Posted,
 }
 
 /// One history of a mode.
@@ -68,10 +78,18 @@ pub fn history_of(mode: usize, random: &mut Random) -> History {
     };
     (MODES[mode].write)(&mut writer);
     let Writer { events, posted, .. } = writer;
+    let (posted, with_calendar) = match posted.calendar {
+        Some(_) => (post_all(&events), posted),
+        None => {
+            let calendar = calendars::around(&events, random);
+            (posted, post_all_by(Some(&calendar), &events))
+        }
+    };
     History {
         mode,
         events,
         posted,
+        with_calendar,
     }
 }
 

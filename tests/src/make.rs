@@ -1,5 +1,6 @@
-//! Events by name, for histories that are written out.
+//! Events by name, and calendars by their days, for histories that are written out.
 use crate::peer::kind::*;
+use tools::core::Calendar;
 use tools::event::Event;
 
 pub fn bill(day: u32, amount: u64) -> Event {
@@ -74,4 +75,14 @@ pub fn reconnection(day: u32, option: u8) -> Event {
 
 pub fn close(day: u32) -> Event {
     Event::new(CLOSE, 0, day, 0)
+}
+
+/// The calendar from a first day on in which these days are working days, counted from 0 for the first.
+pub fn calendar(first: u32, is_working: impl Fn(u32) -> bool) -> Calendar {
+    let word = |word: usize| {
+        let set = (0..64).filter(|bit| is_working(64 * word as u32 + bit));
+        set.fold(0, |bits, bit| bits | 1 << bit)
+    };
+    let bits = std::array::from_fn(word);
+    Calendar { first, bits }
 }

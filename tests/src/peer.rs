@@ -1,10 +1,12 @@
 //! The rules of an account a second time, over the list of its accepted events.
 //!
-//! Nothing is carried from event to event: every question is worked out afresh from the list. That is slow and plain,
-//! and it shares no idea with the core, which keeps a bounded account and steps it.
+//! Nothing is carried from event to event: every question is worked out afresh from the list, and from the calendar where
+//! the account was begun with one. That is slow and plain, and it shares no idea with the core, which keeps a bounded account
+//! and steps it.
 
 pub mod arrangement;
 pub mod book;
+pub mod calendar;
 pub mod collection;
 pub mod days;
 pub mod deposit;
@@ -20,6 +22,7 @@ pub mod writer;
 pub use book::{report, standing};
 pub use rows::refusal;
 
+use calendar::Calendar;
 use collection::Service;
 use money::Money;
 use tools::event::Event;
@@ -50,15 +53,25 @@ pub mod kind {
 /// A list after its posting.
 #[derive(Clone, Debug, Default)]
 pub struct Posted {
+    /// What the account was begun with; that of a book has none.
+    pub calendar: Option<Calendar>,
     pub accepted: Vec<Event>,
     /// 0 for an accepted event, else the number that refused it; one for each event of the list.
     pub answers: Vec<u8>,
 }
 
 impl Posted {
+    /// Before any event.
+    pub fn begun(calendar: Option<Calendar>) -> Posted {
+        Posted {
+            calendar,
+            ..Posted::default()
+        }
+    }
+
     /// Posts one more event and says its answer.
     pub fn post(&mut self, event: Event) -> u8 {
-        let answer = refusal(&self.accepted, event);
+        let answer = refusal(self.calendar.as_ref(), &self.accepted, event);
         if answer == 0 {
             self.accepted.push(event);
         }
@@ -73,7 +86,12 @@ impl Posted {
 
 /// Posts a list, from a fresh account on.
 pub fn post_all(events: &[Event]) -> Posted {
-    let mut posted = Posted::default();
+    post_all_by(None, events)
+}
+
+/// The same from an account on that is begun with a calendar, or without.
+pub fn post_all_by(calendar: Option<&Calendar>, events: &[Event]) -> Posted {
+    let mut posted = Posted::begun(calendar.cloned());
     for &event in events {
         posted.post(event);
     }

@@ -1,5 +1,7 @@
 //! Events and answers in words.
+use crate::peer::calendar::Calendar;
 use crate::peer::kind::*;
+use crate::peer::post_all_by;
 use tools::event::Event;
 
 /// An event as one reads it aloud, with its numbers where it is not as its kind should be.
@@ -48,17 +50,37 @@ pub fn name(kind: u8) -> &'static str {
 
 /// The events of each account, a line for each, with the peer's answer.
 pub fn accounts(list: &[Vec<Event>]) -> String {
-    let mut text = String::new();
-    for (index, events) in list.iter().enumerate() {
-        text += &format!("  account {index}\n");
-        let answers = crate::peer::post_all(events).answers;
-        for (&one, answer) in events.iter().zip(answers) {
-            let answer = match answer {
-                0 => String::from("accepted"),
-                number => format!("refused {number}"),
-            };
-            text += &format!("    {}, by the peer {answer}\n", event(one));
-        }
+    let accounts = list.iter().enumerate();
+    let shown: Vec<String> = accounts
+        .map(|(index, events)| account(index, None, events))
+        .collect();
+    shown.concat()
+}
+
+/// The same of one account, which may have a calendar.
+pub fn account(index: usize, calendar: Option<&Calendar>, events: &[Event]) -> String {
+    let mut text = format!("  account {index}\n");
+    text += &calendar.map_or(String::new(), words_of);
+    let answers = post_all_by(calendar, events).answers;
+    for (&one, answer) in events.iter().zip(answers) {
+        let answer = match answer {
+            0 => String::from("accepted"),
+            number => format!("refused {number}"),
+        };
+        text += &format!("    {}, by the peer {answer}\n", event(one));
+    }
+    text
+}
+
+/// A calendar: its first day, and its words with the first of them first.
+fn words_of(calendar: &Calendar) -> String {
+    let mut text = format!(
+        "    calendar from day {}, in words of 64 days\n",
+        calendar.first
+    );
+    for line in calendar.bits.chunks(4) {
+        let line: Vec<String> = line.iter().map(|word| format!("{word:016x}")).collect();
+        text += &format!("      {}\n", line.join(" "));
     }
     text
 }
@@ -119,6 +141,23 @@ mod tests {
     fn an_odd_event_shows_its_numbers() {
         let odd = Event::new(17, 1, 2, 3);
         assert_eq!(event(odd), "day 2 kind 17 option 1 amount 3");
+    }
+
+    #[test]
+    fn a_calendar_is_shown_by_its_words() {
+        let calendar = make::calendar(20, |place| [0, 8, 127].contains(&place));
+        let shown = account(3, Some(&calendar), &[make::cut(19)]);
+        let lines: Vec<&str> = shown.lines().collect();
+        assert_eq!(
+            lines[..2],
+            [
+                "  account 3",
+                "    calendar from day 20, in words of 64 days"
+            ]
+        );
+        let words = "      0000000000000101 8000000000000000 0000000000000000 0000000000000000";
+        assert_eq!((lines[2], lines.len()), (words, 11));
+        assert_eq!(lines[10], "    day 19 cut, by the peer refused 24");
     }
 
     #[test]

@@ -9,10 +9,11 @@
  *   target/stack examples/sample.book examples/deposit-way.book ..
  *
  * The calls are made over the books named, over two books of 65,536 bytes, and
- * for their events over accounts that are kept. It prints the most that each
- * function took, in bytes. The status is 0 only where that is within what the
- * header promises, HOLLUPAQ_STACK, and where an event of each kind was
- * accepted, without which too little would have been seen.
+ * for their events over accounts that are kept, without a calendar and with
+ * one. It prints the most that each function took, in bytes. The status is 0
+ * only where that is within what the header promises, HOLLUPAQ_STACK, and where
+ * an event of each kind was accepted on both, without which too little would
+ * have been seen.
  */
 #define _DEFAULT_SOURCE
 #include "hollupaq.h"
@@ -44,6 +45,8 @@ static size_t accounts_count, records_count;
 static uint8_t numbers[RECORDS];
 static int64_t owed[RECORDS];
 static uint64_t account[HOLLUPAQ_WORDS], kept[KEPT * HOLLUPAQ_WORDS];
+static uint32_t first; /* day of the calendar: all its days are working days */
+static uint64_t bits[HOLLUPAQ_CALENDAR_WORDS];
 static size_t at;      /* an account, an open item, or a line of a bill */
 static size_t record;  /* the event that is posted */
 static uint64_t usage; /* of a reading */
@@ -74,6 +77,8 @@ static uint64_t answer;
     F(book_write, hollupaq_book_write(counts, accounts_count, OF_LIST, \
                                       book, BOOK)) \
     F(fresh, hollupaq_fresh(OF_ACCOUNT)) \
+    F(begin, hollupaq_begin(OF_ACCOUNT, first, bits, \
+                            HOLLUPAQ_CALENDAR_WORDS)) \
     F(would_answer, hollupaq_would_answer(OF_ACCOUNT, OF_EVENT)) \
     F(post, hollupaq_post(OF_ACCOUNT, OF_EVENT)) \
     F(post_at, hollupaq_post_at(kept, KEPT * HOLLUPAQ_WORDS, KEPT - 1, \
@@ -90,6 +95,7 @@ static uint64_t answer;
     F(in_force, hollupaq_in_force(OF_ACCOUNT, days[record])) \
     F(notice_live, hollupaq_notice_live(OF_ACCOUNT, days[record])) \
     F(certified, hollupaq_certified(OF_ACCOUNT, days[record])) \
+    F(working_days, hollupaq_working_days(OF_ACCOUNT, first, days[record])) \
     F(bill, hollupaq_bill(3, usage)) \
     F(bill_used, hollupaq_bill_used(3, usage, at)) \
     F(bill_price, hollupaq_bill_price(3, usage, at)) \
@@ -112,7 +118,7 @@ static const uint64_t paint = 0xa5c396e1d2b4780fu;
 static uint64_t *stack; /* ROOM words, and below them a page to stop at */
 static ucontext_t here, there;
 static int now; /* the function that is measured */
-static size_t accepted[17]; /* by kind */
+static size_t accepted[2][17]; /* without a calendar and with, by kind */
 
 static void fail(const char *what)
 {
@@ -152,16 +158,20 @@ static void measure(int function)
         fail("there is no swapcontext here");
 }
 
-/* Posts the events of one account, which begin at `record`, to kept ones. */
-static void keep(size_t events)
+/*
+ * Posts the events of one account, which begin at `from`, to kept ones. The
+ * calendar begins with the first of them.
+ */
+static void keep(int with_calendar, size_t from, size_t events)
 {
     size_t i;
     int question;
 
-    measure(THE_fresh);
+    first = days[from];
+    measure(with_calendar ? THE_begin : THE_fresh);
     for (i = 0; i < KEPT; i++)
         memcpy(kept + i * HOLLUPAQ_WORDS, account, sizeof account);
-    for (i = 0; i < events; i++, record++) {
+    for (record = from; record < from + events; record++) {
         uint64_t expected;
 
         measure(THE_would_answer);
@@ -170,19 +180,19 @@ static void keep(size_t events)
         if (answer != expected)
             fail("an answer is not the one foretold");
         if (hollupaq_accepted(answer))
-            accepted[kinds[record]]++;
+            accepted[with_calendar][kinds[record]]++;
         measure(THE_post_at);
         if (answer != expected)
             fail("one of many answers otherwise than one alone");
         at = (size_t)hollupaq_open_count(account, HOLLUPAQ_WORDS) / 2;
-        for (question = THE_ok; question <= THE_certified; question++)
+        for (question = THE_ok; question <= THE_working_days; question++)
             measure(question);
     }
 }
 
 static void look_at_book(void)
 {
-    size_t i;
+    size_t i, from = 0;
 
     measure(THE_book_accounts);
     accounts_count = (size_t)(answer - HOLLUPAQ_ACCEPTED);
@@ -199,9 +209,11 @@ static void look_at_book(void)
         fail("a report has another length in memory of its length");
     for (at = 0; at < accounts_count; at++)
         measure(THE_history);
-    record = 0;
-    for (i = 0; i < accounts_count; i++)
-        keep(counts[i]);
+    for (i = 0; i < accounts_count; i++) {
+        keep(0, from, counts[i]);
+        keep(1, from, counts[i]);
+        from += counts[i];
+    }
     measure(THE_book_write);
     if (answer != HOLLUPAQ_ACCEPTED + book_len)
         fail("a book is not written back");
@@ -305,9 +317,10 @@ static size_t tell(void)
 int main(int argc, char **argv)
 {
     size_t most;
-    int i, missing = 0;
+    int i, with, missing = 0;
 
     make_stack();
+    memset(bits, 0xff, sizeof bits);
     measure(THE_nothing);
     measure(THE_version);
     measure(THE_words);
@@ -324,9 +337,12 @@ int main(int argc, char **argv)
 
     most = tell();
     for (i = 1; i <= 16; i++) {
-        if (accepted[i] == 0) {
-            printf("no event of kind %d was accepted\n", i);
-            missing = 1;
+        for (with = 0; with < 2; with++) {
+            if (accepted[with][i] == 0) {
+                printf("no event of kind %d was accepted with%s calendar\n", i,
+                       with ? " a" : "out");
+                missing = 1;
+            }
         }
     }
     printf("%lu bytes of stack at most, %lu promised\n", (unsigned long)most,

@@ -2,8 +2,8 @@
 //! is held in outward.rs; that the header compiles, in .ci/link.
 use std::fs;
 use std::path::Path;
-use tools::core::lent::{self, ACCEPTED, WORDS};
-use tools::core::{self, bills, books, Account};
+use tools::core::lent::{self, ACCEPTED, CALENDAR_DAYS, CALENDAR_WORDS, WORDS};
+use tools::core::{self, bills, books, Account, Calendar};
 use tools::event::Event;
 use tools::kinds::KINDS;
 use tools::text;
@@ -56,7 +56,7 @@ fn every_refusal_has_one_name() {
         .into_iter()
         .map(|(_, number)| number)
         .collect();
-    assert_eq!(numbers, (0..=23).collect::<Vec<u64>>());
+    assert_eq!(numbers, (0..=24).collect::<Vec<u64>>());
 }
 
 #[test]
@@ -71,7 +71,7 @@ fn readme_has_every_refusal_once() {
         .lines()
         .filter_map(|line| line.strip_prefix("| ")?.split(' ').next()?.parse().ok())
         .collect();
-    assert_eq!(numbers, (1..=23).collect::<Vec<u64>>());
+    assert_eq!(numbers, (1..=24).collect::<Vec<u64>>());
 }
 
 /// For each name of a rule, a history whose last event it refuses, as the text of a book has it.
@@ -129,6 +129,45 @@ fn a_name_says_what_is_refused() {
         let refused = number(&format!("REFUSED_{name}"));
         assert_eq!(lent::would_answer(&account, *last), refused, "{name}");
         assert_eq!(lent::post(&mut account, *last), refused, "{name}");
+    }
+}
+
+/// A final notice and a disconnection on both sides of each end of a calendar, whose days are all working days.
+#[test]
+fn a_name_says_that_a_day_lies_outside_the_calendar() {
+    let first = 3_000;
+    let bits = [u64::MAX; CALENDAR_WORDS];
+    let (last, outside) = (first + CALENDAR_DAYS - 1, number("REFUSED_CALENDAR"));
+    let mut account = *Account::begin(&Calendar { first, bits }).words();
+    let post =
+        |account: &mut [u64], kind, day, amount| lent::post(account, Event::of(kind, day, amount));
+    assert_eq!(post(&mut account, 1, 0, 6_000), ACCEPTED);
+    for kind in [12, 14] {
+        assert_eq!(post(&mut account, kind, first - 1, 0), outside);
+    }
+    let no_notice = number("REFUSED_NO_NOTICE");
+    assert_eq!(post(&mut account.clone(), 14, first, 0), no_notice);
+    assert_eq!(post(&mut account.clone(), 12, first, 0), ACCEPTED);
+    assert_eq!(post(&mut account.clone(), 12, last, 0), ACCEPTED);
+    assert_eq!(post(&mut account.clone(), 12, last + 1, 0), outside);
+    assert_eq!(post(&mut account, 12, last - 5, 0), ACCEPTED);
+    assert_eq!(post(&mut account, 13, last - 1, 0), ACCEPTED);
+    assert_eq!(post(&mut account.clone(), 14, last + 1, 0), outside);
+    assert_eq!(post(&mut account, 14, last, 0), ACCEPTED);
+}
+
+#[test]
+fn a_calendar_has_the_days_and_words_that_the_header_says() {
+    assert_eq!(defined("HOLLUPAQ_CALENDAR_DAYS"), CALENDAR_DAYS.into());
+    assert_eq!(defined("HOLLUPAQ_CALENDAR_WORDS"), CALENDAR_WORDS as u64);
+    let bits = [u64::MAX; CALENDAR_WORDS];
+    let account = *Account::begin(&Calendar { first: 7, bits }).words();
+    let all = ACCEPTED + u64::from(CALENDAR_DAYS);
+    assert_eq!(lent::working_days(&account, 0, u32::MAX), all);
+    let none = defined("HOLLUPAQ_NO_CALENDAR");
+    assert_eq!(lent::working_days(&fresh(), 0, u32::MAX), none);
+    for shorter in 0..CALENDAR_WORDS {
+        assert_eq!(lent::begin(&mut fresh(), 7, &bits[..shorter]), 0);
     }
 }
 
@@ -202,7 +241,8 @@ fn services_are_those_of_accounts() {
 fn an_account_has_the_words_that_the_header_says() {
     assert_eq!(defined("HOLLUPAQ_WORDS"), WORDS as u64);
     assert_eq!(defined("HOLLUPAQ_WORDS"), lent::words());
-    let size = format!("{WORDS} words of 64 bits, 1,{} bytes", WORDS * 8 - 1_000);
+    let bytes = tests::show::count(8 * WORDS);
+    let size = format!("{WORDS} words of 64 bits, {bytes} bytes");
     assert!(read("README.md").contains(&size), "README has no {size}");
     assert_eq!(defined("HOLLUPAQ_ACCEPTED"), ACCEPTED);
 }

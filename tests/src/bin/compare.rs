@@ -129,7 +129,9 @@ impl ByLibrary {
         let expected = peer::report(&book.bytes);
         self.coverage.book(&expected);
         for history in &book.histories {
-            self.coverage.history(&history.events, &history.posted);
+            for posted in [&history.posted, &history.with_calendar] {
+                self.coverage.history(&history.events, posted);
+            }
         }
         let group = match book.damaged {
             true => &mut self.damaged,

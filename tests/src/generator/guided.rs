@@ -1,6 +1,7 @@
 //! Days and amounts next to the bounds that the accepted events give.
 use super::Writer;
 use crate::peer::arrangement::Arrangement;
+use crate::peer::calendar::{working_days, Calendar, DAYS};
 use crate::peer::kind::*;
 use crate::peer::money::{late_charge, received_in_all, Money};
 use crate::peer::rows::{LARGEST_AMOUNT, LARGEST_DEPOSIT, LARGEST_TOTAL};
@@ -181,6 +182,9 @@ impl Writer<'_> {
     pub fn edge_days(&self) -> Vec<u32> {
         let today = self.today();
         let mut days: Vec<u32> = self.accepted().iter().flat_map(edges).collect();
+        if let Some(calendar) = &self.posted.calendar {
+            days.extend(calendar_edges(calendar, self.accepted()));
+        }
         days.retain(|&day| (today..=LAST_DAY).contains(&day));
         days.sort_unstable();
         days.dedup();
@@ -199,6 +203,25 @@ impl Writer<'_> {
         }
         self.random.pick(&days)
     }
+}
+
+/// The days next to both ends of a calendar, and to the fifth working day after each notice.
+fn calendar_edges(calendar: &Calendar, accepted: &[Event]) -> Vec<u32> {
+    let first = u64::from(calendar.first);
+    let ends = [
+        first.saturating_sub(1),
+        first,
+        first + DAYS - 1,
+        first + DAYS,
+    ];
+    let fifth = |notice: &Event| {
+        let waited = |day: &u32| working_days(calendar, notice.day, *day) >= 5;
+        (notice.day..notice.day + 22).find(waited)
+    };
+    let notices = accepted.iter().filter(|e| e.kind == NOTICE);
+    let waits = notices.filter_map(fifth).flat_map(|day| [day - 1, day]);
+    let ends = ends.into_iter().filter_map(|day| u32::try_from(day).ok());
+    ends.chain(waits).collect()
 }
 
 /// The days next to the bounds that an accepted event gives.

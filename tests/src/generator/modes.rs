@@ -1,4 +1,5 @@
 //! The modes: each sets a scene, then walks on among the bounds of what it set up.
+mod calendar;
 mod collection;
 mod deposit;
 mod mixed;
@@ -12,7 +13,7 @@ pub struct Mode {
     pub write: fn(&mut Writer),
 }
 
-pub const MODES: [Mode; 18] = [
+pub const MODES: [Mode; 20] = [
     mode("seventy months of bills", mixed::months),
     mode("returned checks", money::returned_checks),
     mode("notices and disconnections", collection::disconnections),
@@ -22,6 +23,8 @@ pub const MODES: [Mode; 18] = [
     mode("payment arrangements", collection::arrangements),
     mode("arrangements of a few cents", collection::small_debts),
     mode("certificates and approvals", collection::medical),
+    mode("working days after a notice", calendar::working_days),
+    mode("both ends of a calendar", calendar::ends),
     mode("sixty-four open items", money::open_items),
     mode("open items while off", money::open_while_off),
     mode("totals at their end", money::totals),

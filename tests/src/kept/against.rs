@@ -1,16 +1,16 @@
 //! What speaks against a kept account.
 use super::bytes;
 use super::days;
-use super::posting::{keep, Asked, Kept};
+use super::posting::{begin, keep, Asked, Kept};
 use super::told::Told;
-use crate::generator::History;
+use super::working;
 use crate::peer::kind::PAYMENT;
 use crate::peer::money::Money;
 use crate::peer::writer::encode;
-use crate::peer::{post_all, receipts, Posted};
+use crate::peer::{post_all_by, receipts, Posted};
 use crate::{show, shrink};
 use std::fmt::Debug;
-use tools::core::{self, Account, Answer};
+use tools::core::{self, Answer};
 use tools::event::Event;
 
 /// What posting costs beside its events, in the units of the shrinking.
@@ -19,14 +19,20 @@ const TRY: u64 = 10_000;
 /// Words for what is wrong with the posting of a history, by what the peer says of it or by itself.
 pub type Check = fn(&[Event], &Posted, &Kept) -> Option<String>;
 
-/// A history that a check speaks against, shrunk; nothing where it doesn't.
-pub fn compare(history: &History, kept: &Kept, check: Check) -> Option<String> {
-    check(&history.events, &history.posted, kept)?;
-    let again = |events: &Vec<Event>| check(events, &post_all(events), &keep(events, kept.asked));
+/// A history that a check speaks against, shrunk; nothing where it doesn't. The calendar, if there is one, stays.
+pub fn compare(events: &[Event], posted: &Posted, kept: &Kept, check: Check) -> Option<String> {
+    check(events, posted, kept)?;
+    let calendar = posted.calendar.as_ref();
+    let again = |events: &Vec<Event>| {
+        let kept = keep(calendar, events, kept.asked);
+        check(events, &post_all_by(calendar, events), &kept)
+    };
     let differs = |list: &[Vec<Event>]| list.iter().any(|events| again(events).is_some());
-    let small = shrink::list(vec![history.events.clone()], TRY, &differs);
-    let words: String = small.iter().filter_map(again).collect();
-    Some(show::accounts(&small) + &words)
+    let small = shrink::list(vec![events.to_vec()], TRY, &differs);
+    let shown = small
+        .iter()
+        .map(|events| show::account(0, calendar, events));
+    Some(shown.chain(small.iter().filter_map(again)).collect())
 }
 
 fn unequal<T: PartialEq + Debug>(what: &str, expected: T, found: T) -> Option<String> {
@@ -97,6 +103,12 @@ fn when_asked<T>(
     told
 }
 
+/// The working days of the account's calendar.
+pub fn worked(_: &[Event], posted: &Posted, kept: &Kept) -> Option<String> {
+    let expected = working::by_peer(posted.calendar.as_ref(), &posted.accepted);
+    unequal("working days after and to", &expected, &kept.worked)
+}
+
 /// The same numbers, and the same owed, as the history of the book tells.
 pub fn history(events: &[Event], _: &Posted, kept: &Kept) -> Option<String> {
     let book = encode(&[events.to_vec()]);
@@ -122,9 +134,9 @@ pub fn refused(_: &[Event], _: &Posted, kept: &Kept) -> Option<String> {
     ))
 }
 
-/// The account is what the accepted events alone make of a fresh one, byte for byte.
+/// The account is what the accepted events alone make of one that was begun so, byte for byte.
 pub fn accepted_alone(_: &[Event], posted: &Posted, kept: &Kept) -> Option<String> {
-    let mut account = Account::fresh();
+    let mut account = begin(posted.calendar.as_ref());
     for &event in &posted.accepted {
         account.post(event);
     }
@@ -142,32 +154,32 @@ pub fn around(_: &[Event], _: &Posted, kept: &Kept) -> Option<String> {
 #[cfg(test)]
 mod tests {
     use super::*;
-    use crate::make::{bill, cut, payment};
+    use crate::make::{bill, calendar, call, cut, notice, payment};
+    use crate::peer::calendar::Calendar;
+    use tools::core::Account;
 
-    const CHECKS: [(&str, Check); 8] = [
+    const CHECKS: [(&str, Check); 9] = [
         ("answers", answers),
         ("would", would),
         ("told", told),
         ("days", days),
+        ("worked", worked),
         ("history", history),
         ("refused", refused),
         ("alone", accepted_alone),
         ("around", around),
     ];
 
-    /// Which checks speak against the worked example, after something was made wrong in what the peer or the account
-    /// said of it.
-    fn speak(wrong: fn(&mut Posted, &mut Kept)) -> Vec<&'static str> {
-        let events = [
-            bill(100, 10_000),
-            bill(130, 5_000),
-            payment(131, 4_000),
-            cut(131),
-        ];
-        let mut posted = post_all(&events);
-        let mut kept = keep(&events, Asked::AfterEach);
+    /// Which checks speak against events, after something was made wrong in what the peer or the account said of them.
+    fn speak_of(
+        calendar: Option<&Calendar>,
+        events: &[Event],
+        wrong: fn(&mut Posted, &mut Kept),
+    ) -> Vec<&'static str> {
+        let mut posted = post_all_by(calendar, events);
+        let mut kept = keep(calendar, events, Asked::AfterEach);
         wrong(&mut posted, &mut kept);
-        let speaks = |(_, check): &&(&str, Check)| check(&events, &posted, &kept).is_some();
+        let speaks = |(_, check): &&(&str, Check)| check(events, &posted, &kept).is_some();
         CHECKS
             .iter()
             .filter(speaks)
@@ -175,9 +187,54 @@ mod tests {
             .collect()
     }
 
+    /// The same of the worked example.
+    fn speak(wrong: fn(&mut Posted, &mut Kept)) -> Vec<&'static str> {
+        let events = [
+            bill(100, 10_000),
+            bill(130, 5_000),
+            payment(131, 4_000),
+            cut(131),
+        ];
+        speak_of(None, &events, wrong)
+    }
+
+    /// The same of a cut on the fifth working day, with the weekends on days 3, 4, 10, 11 and so on of the calendar.
+    fn speak_by_calendar(wrong: fn(&mut Posted, &mut Kept)) -> Vec<&'static str> {
+        let weekdays = calendar(20, |place| ![3, 4].contains(&(place % 7)));
+        let events = [
+            bill(0, 6_000),
+            notice(20),
+            call(24),
+            cut(25),
+            call(26),
+            cut(27),
+        ];
+        speak_of(Some(&weekdays), &events, wrong)
+    }
+
     #[test]
     fn nothing_speaks_against_what_is_right() {
         assert_eq!(speak(|_, _| {}), [""; 0]);
+    }
+
+    #[test]
+    fn nothing_but_the_history_of_a_book_speaks_against_a_calendar() {
+        assert_eq!(speak_by_calendar(|_, _| {}), ["history"]);
+    }
+
+    #[test]
+    fn a_wrong_calendar_is_seen() {
+        let none = |posted: &mut Posted, _: &mut Kept| posted.calendar = None;
+        assert_eq!(speak_by_calendar(none), ["worked", "history", "alone"]);
+        let some = |posted: &mut Posted, _: &mut Kept| {
+            posted.calendar.as_mut().unwrap().bits[31] ^= 1 << 63;
+        };
+        assert_eq!(speak_by_calendar(some), ["worked", "history", "alone"]);
+        let count = |_: &mut Posted, kept: &mut Kept| kept.worked[5].told += 1;
+        assert_eq!(speak_by_calendar(count), ["worked", "history"]);
+        assert_eq!(speak(count), ["worked"]);
+        let fewer = |_: &mut Posted, kept: &mut Kept| kept.worked.truncate(5);
+        assert_eq!(speak(fewer), ["worked"]);
     }
 
     #[test]

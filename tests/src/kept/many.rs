@@ -1,6 +1,7 @@
-//! Accounts that lie one after another in one memory, against the same accounts kept apart.
-use super::posting::AROUND;
+//! Accounts that lie one after another in one memory, some with a calendar, against the same accounts kept apart.
+use super::posting::{begin, AROUND};
 use crate::generator::History;
+use crate::peer::calendar::Calendar;
 use crate::peer::kind::PAYMENT;
 use crate::peer::LAST_DAY;
 use crate::{show, shrink};
@@ -22,8 +23,9 @@ struct Memory {
 }
 
 impl Memory {
-    fn fresh(count: usize) -> Memory {
-        let accounts = Account::fresh().words().repeat(count);
+    fn of(accounts: &[Account]) -> Memory {
+        let count = accounts.len();
+        let accounts: Vec<u64> = accounts.iter().flat_map(Account::words).copied().collect();
         let words = [&AROUND[..], &accounts, &AROUND].concat();
         Memory { words, count }
     }
@@ -49,24 +51,41 @@ pub fn lists(histories: &[History]) -> Vec<Vec<Event>> {
     events.cycle().take(ACCOUNTS).collect()
 }
 
+/// The calendars of the accounts, by their places: every second has none.
+pub type Calendars = [Option<Calendar>; ACCOUNTS];
+
+/// Those of the histories of a book, in turn.
+pub fn calendars(histories: &[History]) -> Calendars {
+    let of_place = |place: usize| {
+        let history = &histories[place % histories.len()];
+        let calendar = history.with_calendar.calendar.clone();
+        calendar.filter(|_| place.is_multiple_of(2))
+    };
+    std::array::from_fn(of_place)
+}
+
 /// The library's posting to one of many, or one that is not as it should be.
 type PostAt = fn(&mut [u64], usize, Event) -> u64;
 
-/// Lists of events that lead to something else in one memory than apart, shrunk; nothing where they don't.
-pub fn compare(list: Vec<Vec<Event>>) -> Option<String> {
-    let wrong = |list: &[Vec<Event>]| wrong(list, lent::post_at);
+/// Lists of events that lead to something else in one memory than apart, shrunk; nothing where they don't. The calendars stay
+/// in their places.
+pub fn compare(calendars: &Calendars, list: Vec<Vec<Event>>) -> Option<String> {
+    let wrong = |list: &[Vec<Event>]| wrong(calendars, list, lent::post_at);
     wrong(&list)?;
     let differs = |list: &[Vec<Event>]| wrong(list).is_some();
     let small = shrink::list(list, TRY, &differs);
     let words = wrong(&small).unwrap_or_default();
-    Some(show::accounts(&small) + &words)
+    let places = small.iter().zip(calendars).enumerate();
+    let shown = places.map(|(at, (events, calendar))| show::account(at, calendar.as_ref(), events));
+    Some(shown.chain([words]).collect())
 }
 
 /// Posts the events of the lists in turn, one of each account: every answer is the one that the account gives apart, and
 /// after each event all words are those of the accounts kept apart.
-fn wrong(list: &[Vec<Event>], post_at: PostAt) -> Option<String> {
-    let mut memory = Memory::fresh(list.len());
-    let mut apart = vec![Account::fresh(); list.len()];
+fn wrong(calendars: &Calendars, list: &[Vec<Event>], post_at: PostAt) -> Option<String> {
+    let begun = calendars.iter().map(|calendar| begin(calendar.as_ref()));
+    let mut apart: Vec<Account> = begun.take(list.len()).collect();
+    let mut memory = Memory::of(&apart);
     let longest = list.iter().map(Vec::len).max().unwrap_or(0);
     for turn in 0..longest {
         for (index, events) in list.iter().enumerate() {
@@ -102,7 +121,9 @@ fn past_the_end(mut memory: Memory, apart: &[Account], post_at: PostAt) -> Optio
 #[cfg(test)]
 mod tests {
     use super::*;
-    use crate::make::{bill, cut, payment};
+    use crate::make::{bill, calendar, cut, payment};
+
+    const NONE: Calendars = [const { None }; ACCOUNTS];
 
     fn list() -> Vec<Vec<Event>> {
         vec![
@@ -114,14 +135,17 @@ mod tests {
 
     #[test]
     fn three_accounts_go_their_own_ways() {
-        assert_eq!(compare(list()), None);
-        assert_eq!(compare(vec![]), None);
+        assert_eq!(compare(&NONE, list()), None);
+        assert_eq!(compare(&NONE, vec![]), None);
+        let from_100 = calendar(100, |place| place % 7 < 5);
+        let calendars = [Some(from_100), None, Some(calendar(0, |_| false))];
+        assert_eq!(compare(&calendars, list()), None);
     }
 
     #[test]
     fn a_posting_that_goes_another_way_is_seen() {
         use lent::post_at as post;
-        assert_eq!(wrong(&list(), post), None);
+        assert_eq!(wrong(&NONE, &list(), post), None);
         // Where each is seen first, and the way that the posting goes.
         let other_ways: [(&str, PostAt); 5] = [
             ("account 0, event 0", |words, at, event| {
@@ -147,7 +171,7 @@ mod tests {
             }),
         ];
         for (place, post_at) in other_ways {
-            let seen = wrong(&list(), post_at).unwrap();
+            let seen = wrong(&NONE, &list(), post_at).unwrap();
             assert!(seen.starts_with(&format!("  {place}: ")), "{place}, {seen}");
         }
     }
@@ -157,7 +181,7 @@ mod tests {
         let apart = vec![Account::fresh(); ACCOUNTS];
         let places = 2 * AROUND.len() + ACCOUNTS * WORDS;
         for place in 0..places {
-            let mut memory = Memory::fresh(ACCOUNTS);
+            let mut memory = Memory::of(&apart);
             assert!(memory.is_of(&apart));
             memory.words[place] ^= 1;
             assert!(!memory.is_of(&apart));

@@ -1,12 +1,12 @@
 //! Accounts some of whose bits were turned: memory that the core did not leave so.
 use super::bytes;
 use super::days;
-use super::posting::Surrounded;
+use super::posting::{begin, Surrounded};
 use super::told::Told;
-use crate::generator::History;
+use super::working;
+use crate::peer::Posted;
 use crate::random::Random;
 use crate::show;
-use std::slice;
 use tools::core::lent::WORDS;
 use tools::core::{Account, Answer};
 use tools::event::Event;
@@ -50,24 +50,25 @@ fn turn(account: &Account, turns: &[(usize, u64)]) -> Account {
 
 /// Turns some bits of the account that a history leads to, and posts on. Says whether the core saw that the account is
 /// none of its own, or what was wrong.
-pub fn compare(history: &History, random: &mut Random) -> Result<bool, String> {
-    let mut account = Account::fresh();
-    for &event in &history.events {
+pub fn compare(events: &[Event], posted: &Posted, random: &mut Random) -> Result<bool, String> {
+    let calendar = posted.calendar.as_ref();
+    let mut account = begin(calendar);
+    for &event in events {
         account.post(event);
     }
     let turns = turns(&account, random);
     let odd = turn(&account, &turns);
-    post_on(odd, &last_events(history), Account::post).map_err(|wrong| {
-        let shown = show::accounts(slice::from_ref(&history.events));
+    post_on(odd, &last_events(events, posted), Account::post).map_err(|wrong| {
+        let shown = show::account(0, calendar, events);
         let (count, first) = (turns.len(), &turns[..turns.len().min(3)]);
         format!("{shown}  then bits turned in {count} words, first {first:?}\n  {wrong}\n")
     })
 }
 
 /// On an earlier day most of them would be refused for that alone.
-fn last_events(history: &History) -> Vec<Event> {
-    let day = history.posted.accepted.last().map_or(0, |e| e.day);
-    let last = history.events.iter().rev().take(POSTED);
+fn last_events(events: &[Event], posted: &Posted) -> Vec<Event> {
+    let day = posted.accepted.last().map_or(0, |e| e.day);
+    let last = events.iter().rev().take(POSTED);
     last.map(|&event| Event { day, ..event }).collect()
 }
 
@@ -84,22 +85,19 @@ fn post_on(
         let before = memory.account.clone();
         let (is_ok, would) = (memory.account.is_ok(), memory.account.would_answer(event));
         let answer = post(&mut memory.account, event);
-        // It has to answer; what it tells is laid down only where it is seen to be no account.
-        let told = Told::by_account(&memory.account);
-        let asked = days::asked(&[]);
-        let for_days = days::by_account(memory.account.words(), &asked);
-        let is_none = told == Told::by_no_account() && for_days == days::by_no_account(&asked);
         let changed = bytes::differing(&before, &memory.account);
+        // It has to answer; what it tells is laid down only where it is seen to be no account.
+        let told = told_otherwise(&memory.account);
         let fine = match answer {
             Answer::Accepted(_) => !seen,
-            Answer::Refused(0) => changed.is_empty() && is_none,
-            Answer::Refused(number) => !seen && number <= 19 && changed.is_empty(),
+            Answer::Refused(0) => changed.is_empty() && told.is_none(),
+            Answer::Refused(number) => !seen && of_table(number) && changed.is_empty(),
         };
         let foretold = would == answer && is_ok == (answer != Answer::Refused(0));
         if !fine || !foretold || !memory.is_untouched_around() {
             let event = show::event(event);
             return Err(format!(
-                "{event}: {answer:?}, changed {changed:?}, {told:?}, {for_days:?}"
+                "{event}: {answer:?}, changed {changed:?}, {told:?}"
             ));
         }
         seen = answer == Answer::Refused(0);
@@ -107,11 +105,29 @@ fn post_on(
     Ok(seen)
 }
 
+/// Whether a number can refuse an event. Turned bits may make an account with a calendar of one without.
+fn of_table(number: u8) -> bool {
+    (1..=19).contains(&number) || number == 24
+}
+
+/// What an account tells where that is not what memory tells that is no account.
+fn told_otherwise(account: &Account) -> Option<String> {
+    let (words, days, pairs) = (account.words(), days::asked(&[]), working::asked(None, &[]));
+    let told = Told::by_account(account);
+    let for_days = days::by_account(words, &days);
+    let worked = working::by_account(words, &pairs);
+    let is_none = told == Told::by_no_account()
+        && for_days == days::by_no_account(&days)
+        && worked == working::by_no_account(&pairs);
+    (!is_none).then(|| format!("{told:?}, {for_days:?}, {worked:?}"))
+}
+
 #[cfg(test)]
 mod tests {
     use super::*;
-    use crate::make::{bill, call, close, cut, notice, payment};
+    use crate::make::{bill, calendar, call, close, cut, notice, payment};
     use tools::core::lent::LAYOUT;
+    use tools::core::Calendar;
 
     /// The one word that an event, posted after others, takes from one number to another.
     fn word(events: &[Event], event: Event, from: u64, to: u64) -> usize {
@@ -161,6 +177,7 @@ mod tests {
         assert!(is_seen(&fresh, |_, _| Answer::Refused(0)));
         // A refusal has a number of the table, and leaves the account as it was.
         assert!(is_seen(&fresh, |_, _| Answer::Refused(20)));
+        assert!(is_seen(&fresh, |_, _| Answer::Refused(25)));
         assert!(is_seen(&fresh, |account, event| {
             account.post(payment(event.day, 1));
             Answer::Refused(12)
@@ -199,6 +216,37 @@ mod tests {
         let made = word(&[], bill(7, 6_000), 0, 1);
         assert!(sees(made, 64));
         assert!(sees(made, 1 << 63));
+    }
+
+    /// Every first day and all bits are a calendar.
+    #[test]
+    fn another_calendar_is_not_seen() {
+        let from_7 = calendar(7, |place| place % 7 < 5);
+        let begun = Account::begin(&from_7);
+        let differing = |other: &Account| {
+            let both = begun.words().iter().zip(other.words());
+            let words: Vec<u64> = both.map(|(one, other)| one ^ other).collect();
+            words.into_iter().filter(|&bits| bits != 0).collect()
+        };
+        let posted = |account: &Account| {
+            let events = [bill(8, 6_000), notice(28), call(29), cut(30)];
+            post_on(account.clone(), &events, Account::post)
+        };
+        for bit in 0..2_048 {
+            let mut other = from_7.clone();
+            other.bits[bit / 64] ^= 1 << (bit % 64);
+            let other = Account::begin(&other);
+            let words: Vec<u64> = differing(&other);
+            assert_eq!(words, [1 << (bit % 64)], "bit {bit}");
+            assert_eq!(posted(&other), Ok(false), "bit {bit}");
+        }
+        for first in [0, 6, 1 << 31, u32::MAX] {
+            let bits = from_7.bits;
+            let other = Account::begin(&Calendar { first, bits });
+            let words: Vec<u64> = differing(&other);
+            assert_eq!(words.len(), 1, "first {first}");
+            assert_eq!(posted(&other), Ok(false), "first {first}");
+        }
     }
 
     #[test]

@@ -1,4 +1,5 @@
 //! Service, final notices and calls.
+use super::calendar::{working_days, Calendar};
 use super::kind::*;
 use super::money::Money;
 use tools::event::Event;
@@ -35,9 +36,19 @@ fn kept_alive(accepted: &[Event], money: &Money, notice: usize) -> bool {
     !used_up && !lapsed
 }
 
-/// Whether a live notice has the day among those on which it allows a cut.
-pub fn notice_allows(accepted: &[Event], money: &Money, day: u32) -> bool {
-    live_notice(accepted, money, day).is_some_and(|n| i64::from(n) + 5 <= i64::from(day))
+/// Whether a live notice has the day among those on which it allows a cut: from its fifth day on, or with a calendar from its
+/// fifth working day on.
+pub fn notice_allows(
+    calendar: Option<&Calendar>,
+    accepted: &[Event],
+    money: &Money,
+    day: u32,
+) -> bool {
+    let waited = |notice: u32| match calendar {
+        None => i64::from(notice) + 5 <= i64::from(day),
+        Some(calendar) => working_days(calendar, notice, day) >= 5,
+    };
+    live_notice(accepted, money, day).is_some_and(waited)
 }
 
 /// Whether there was a call on one of the three days before a day.

@@ -1,5 +1,6 @@
-//! What is refused: the rows asked in the order of their numbers.
+//! What is refused: the rows asked in the order of their numbers, but for 24, which comes after 5.
 use super::arrangement::stands;
+use super::calendar::{holds, Calendar};
 use super::collection::{called, live_notice, notice_allows, service, Service, ARREARS};
 use super::days;
 use super::deposit::{earned, full_since, held, required};
@@ -18,14 +19,21 @@ pub const LARGEST_TOTAL: i64 = 1_000_000_000_000;
 /// How many items may be open.
 pub const OPEN_ITEMS: usize = 64;
 
-/// The number that refuses an event after those accepted before it, 0 where none does.
-pub fn refusal(accepted: &[Event], event: Event) -> u8 {
+/// The number that refuses an event after those accepted before it, on an account with this calendar or none; 0 where none
+/// does.
+pub fn refusal(calendar: Option<&Calendar>, accepted: &[Event], event: Event) -> u8 {
     let money = Money::of(accepted);
-    let refuses = |row: &u8| refuses(*row, accepted, &money, event);
-    (1..=19).find(refuses).unwrap_or(0)
+    let refuses = |row: &u8| refuses(*row, calendar, accepted, &money, event);
+    (1..=5).chain([24]).chain(6..=19).find(refuses).unwrap_or(0)
 }
 
-fn refuses(row: u8, accepted: &[Event], money: &Money, event: Event) -> bool {
+fn refuses(
+    row: u8,
+    calendar: Option<&Calendar>,
+    accepted: &[Event],
+    money: &Money,
+    event: Event,
+) -> bool {
     let Event { kind, day, .. } = event;
     match (row, kind) {
         (1 | 2, _) => days::refusal(accepted, day) == Some(row),
@@ -40,7 +48,7 @@ fn refuses(row: u8, accepted: &[Event], money: &Money, event: Event) -> bool {
         (9, ARRANGEMENT) => money.arrears(day) == 0 || stands(accepted, money, day),
         (10, NOTICE | CUT) => money.arrears(day) < ARREARS,
         (11, NOTICE) => live_notice(accepted, money, day).is_some(),
-        (12, CUT) => !notice_allows(accepted, money, day),
+        (12, CUT) => !notice_allows(calendar, accepted, money, day),
         (13, CUT) => !called(accepted, day),
         (14, CUT) => stands(accepted, money, day),
         (15, CUT) => certified(accepted, day) && !approved(accepted, day),
@@ -50,6 +58,7 @@ fn refuses(row: u8, accepted: &[Event], money: &Money, event: Event) -> bool {
             money.open_items().len() >= OPEN_ITEMS
         }
         (19, _) => too_much(accepted, money, event),
+        (24, NOTICE | CUT) => calendar.is_some_and(|calendar| !holds(calendar, day)),
         _ => false,
     }
 }

@@ -1,6 +1,8 @@
 //! The peer against the worked examples of document 01: the marked histories, an input for each row, the printed text.
+mod calendar;
+
 use super::*;
-use crate::make::*;
+use crate::make::{self, *};
 
 /// The answer to the last event of a history, after the others were accepted.
 fn last_answer(events: &[Event]) -> u8 {
@@ -513,12 +515,29 @@ fn histories_keep_the_books_balanced() {
 fn every_answer_is_one_of_the_table() {
     for seed in 0..400 {
         let history = crate::generator::history(&mut crate::random::Random::new(seed));
-        let again = post_all(&history.events);
-        assert_eq!(again.answers, history.posted.answers);
-        assert_eq!(again.accepted.len() + again.refused(), history.events.len());
-        for (event, &answer) in history.events.iter().zip(&again.answers) {
-            let known = answer == 0 || crate::coverage::concerns(answer, event.kind);
-            assert!(known, "{event:?} refused with {answer}");
+        for posted in [&history.posted, &history.with_calendar] {
+            let again = post_all_by(posted.calendar.as_ref(), &history.events);
+            assert_eq!(again.answers, posted.answers);
+            assert_eq!(again.accepted.len() + again.refused(), history.events.len());
+            for (event, &answer) in history.events.iter().zip(&again.answers) {
+                let known = answer == 0 || crate::coverage::concerns(answer, event.kind);
+                assert!(known, "{event:?} refused with {answer}");
+            }
         }
     }
+}
+
+#[test]
+fn a_history_is_posted_without_a_calendar_and_with_one() {
+    let mut differing = 0;
+    for seed in 0..400 {
+        let history = crate::generator::history(&mut crate::random::Random::new(seed));
+        assert_eq!(history.posted.calendar, None, "seed {seed}");
+        assert!(history.with_calendar.calendar.is_some(), "seed {seed}");
+        let same = history.posted.answers == history.with_calendar.answers;
+        differing += usize::from(!same);
+        // A calendar refuses with 24, and only where there is one.
+        assert!(!history.posted.answers.contains(&24), "seed {seed}");
+    }
+    assert!((100..=300).contains(&differing), "{differing} of 400");
 }
