@@ -33,6 +33,6 @@ workdays_of (Some c) = record { given = 1; first = c.first; bits = c.bits }
 abbrev pub calendar_by : Workdays → Option Calendar
 calendar_by s = cond (eqb s.given 1) (Some (record { first = s.first; bits = s.bits })) None
 
--- the test; not of the bits, since any bits are a calendar's, and to look through 32 words at each posting would cost too much
+-- the test; not of the bits, since any are a calendar's, and without one they are never read
 abbrev pub workdays_ok : Workdays → Bool
 workdays_ok s = leb s.given 1 && leb s.first largest_u32

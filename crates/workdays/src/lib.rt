@@ -109,8 +109,8 @@ pub fn in_calendar(w: &[u64; WORDS], t: u64) -> bool
 }
 
 // ---- the test
-// A mark that is 0 or 1, and a first day that there can be. Not the bits: any are a calendar's, and to look through 32 words at each posting
-// would cost too much.
+// A mark that is 0 or 1, and a first day that there can be. Not the bits: any are a calendar's, and without one they are
+// never read.
 pub fn ok(w: &[u64; WORDS]) -> bool
     ensures { result ≡ workdays_ok (workdays_on w.now) }
 {
