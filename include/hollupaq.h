@@ -37,11 +37,11 @@ extern "C" {
 #endif
 
 /*
- * The version of this header, major * 10000 + minor * 100 + patch: 1.4.0. The
+ * The version of this header, major * 10000 + minor * 100 + patch: 1.5.0. The
  * library's own is told by hollupaq_version; where they differ, the header is
  * not of this library.
  */
-#define HOLLUPAQ_VERSION 10400
+#define HOLLUPAQ_VERSION 10500
 
 uint64_t hollupaq_version(void);
 
@@ -107,7 +107,8 @@ enum {
     HOLLUPAQ_DEPOSIT_PAID = 6,  /* amount in cents */
     HOLLUPAQ_DEPOSIT_MOVED = 7,
     HOLLUPAQ_PAYOUT = 8,        /* amount in cents */
-    HOLLUPAQ_CERTIFICATE = 9,   /* amount: its days, 1 to 180 */
+    HOLLUPAQ_CERTIFICATE = 9,   /* amount: its days, 1 to 180, or from day 9497
+                                   (1 January 2026) on 1 to 90 */
     HOLLUPAQ_APPROVAL = 10,     /* amount: its days, 1 to 30 */
     HOLLUPAQ_ARRANGEMENT = 11,  /* option: its parts, 2 to 6 */
     HOLLUPAQ_NOTICE = 12,
@@ -219,9 +220,12 @@ uint64_t hollupaq_book_write(const uint32_t *counts, size_t counts_len,
 
 /*
  * The first word of every account: a million and the number of the layout. It
- * is above every day, with which accounts began before they had this word.
+ * is above every day, with which accounts began before they had this word. It
+ * counts on where the words of an account change, and where the rules change
+ * which events are accepted: an account is made of those that its library
+ * accepts.
  */
-#define HOLLUPAQ_LAYOUT 1000003
+#define HOLLUPAQ_LAYOUT 1000004
 
 /*
  * An account is HOLLUPAQ_WORDS words in the caller's memory,
@@ -244,9 +248,10 @@ uint64_t hollupaq_book_write(const uint32_t *counts, size_t counts_len,
  * with memcpy, or into a file from which a library of the same HOLLUPAQ_LAYOUT
  * reads it back, on a machine of the same byte order. The book is the record:
  * accounts that were kept by another layout are refused and not misread, and
- * are rebuilt by posting the book's events again. hollupaq_book_read gives
- * them, and the same events make the same account. A book holds no calendar: an
- * account that had one is begun with it again.
+ * are rebuilt by posting all of the book's events again, each of which this
+ * library answers by its own rules. hollupaq_book_read gives them, and the same
+ * events make the same account. A book holds no calendar: an account that had
+ * one is begun with it again.
  */
 
 /*

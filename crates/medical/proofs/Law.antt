@@ -5,7 +5,6 @@ use mathlib.Core.Bool.{Bool, true, false, cond, ◌&&◌, ◌||◌}
 use mathlib.Core.List.{[], ◌∷◌}
 use native.Mathlib.Omega.{arith}
 use lib.Dec.{ltb}
-use lib.ListN.{get_or}
 use borrow.Author.Tests.{le-leb, le-ltb, eqb-true}
 use Rattle.basics.proofs.Cases.{on}
 use Rattle.std.proofs.lemmas.Bool.{cond_both}
@@ -16,10 +15,10 @@ use Rattle.rules.specs.Kinds.{certificate, approval}
 use Rattle.rules.specs.Limits.{final_day, certificate_days, approval_days}
 use Rattle.rules.specs.History.{History, is, last_posted}
 use Rattle.rules.specs.Medical.{covers, certified, approved}
-use Rattle.rules.specs.Range.{unknown, fields}
+use Rattle.rules.specs.Range.{fields_of}
 use Rattle.rules.specs.Accepted.{Lawful}
 use Rattle.rules.proofs.Days.{Sorted}
-use Rattle.rules.proofs.Ranged.{ranged}
+use Rattle.rules.proofs.Ranged.{ranged, longest_lem}
 use Rattle.rules.proofs.Passed.{Passed, passed}
 use Rattle.rules.proofs.Bounds.{sorted}
 use Rattle.medical.specs.declared.Medical.{Medical}
@@ -49,10 +48,10 @@ approved_is (e ∷ h) t s l =
     (λ q. rw (q, before_later, lasting (is approval e) e t l, approved_is h t s.1 (omega arith)))
 
 -- ---- the test
--- the end that an accepted event of kind k sets, by the largest amount of the kind
-end_in : {c : Option Calendar} (k : ℕ) (h : History) (e : Event) → Passed c h e → cond (is k e) (e.day + e.amount) 0 ≤ final_day + (get_or fields k unknown).amount_to
+-- the end that an accepted event of kind k sets, by the largest amount of the kind on the event's day
+end_in : {c : Option Calendar} (k : ℕ) (h : History) (e : Event) → Passed c h e → cond (is k e) (e.day + e.amount) 0 ≤ final_day + (fields_of k e.day).amount_to
 end_in k h e p =
-    cond_both (is k e) (e.day + e.amount) 0 (λ n. n ≤ final_day + (get_or fields k unknown).amount_to)
+    cond_both (is k e) (e.day + e.amount) 0 (λ n. n ≤ final_day + (fields_of k e.day).amount_to)
     (λ q. omega (arith, p.in_time, (ranged k e p.fields_fit (eqb-true e.kind k q)).amount_high))
     (λ q. zero-le)
 
@@ -67,7 +66,7 @@ ends c (e ∷ h) w =
     let k = ends c h w.1 in
     let r = end_in certificate h e (passed h e w.0) in
     let a = end_in approval h e (passed h e w.0) in
-    record { certified_le = omega arith; approved_le = on (is certificate e) (λ q. rw q zero-le) (λ q. rw q (omega arith)) }
+    record { certified_le = omega (arith, k.certified_le, r, longest_lem e.day); approved_le = on (is certificate e) (λ q. rw q zero-le) (λ q. rw q (omega arith)) }
 
 -- ---- the law
 pub record MedicalLaw (h : History) : Type 0 where

@@ -41,6 +41,6 @@ certified_by m t = ltb t m.certified_to
 abbrev pub approved_by : Medical → ℕ → Bool
 approved_by m t = ltb t m.approved_to
 
--- at most 180 days past the last day, and 30
+-- at most 180 days past the last day, the longest certificate of any day, and 30
 abbrev pub medical_ok : Medical → Bool
 medical_ok m = leb m.certified_to (final_day + certificate_days) && leb m.approved_to (final_day + approval_days)

@@ -11,7 +11,7 @@ use rules::limits::{APPROVAL_DAYS, CERTIFICATE_DAYS, FINAL_DAY};
 use rules::{Event, InRange};
 use span::Part;
 
-// The last day plus the longest certificate, and plus the longest approval.
+// The last day plus the longest certificate of any day, and plus the longest approval.
 const LAST_CERTIFIED: u64 = FINAL_DAY + CERTIFICATE_DAYS;
 
 const LAST_APPROVED: u64 = FINAL_DAY + APPROVAL_DAYS;
@@ -91,7 +91,7 @@ impl Part for Medical {
         w.copy_from_slice(&[self.certified_to, self.approved_to]);
     }
 
-    // Both ends are days that an event in range can set.
+    // Wide enough for every end that an event in range can set.
     fn ok(self) -> bool {
         self.certified_to <= LAST_CERTIFIED && self.approved_to <= LAST_APPROVED
     }

@@ -1,16 +1,16 @@
 // Rows 1 to 3, which concern every event: its day, and its fields; unknown kinds too. A field that a kind does not name is 0.
 #![tactic(auto)]
 
-ghost use Rattle.std.specs.Prelude.{◌≡◌, cond, not, get_or, Err, MatchResult};
+ghost use Rattle.std.specs.Prelude.{◌≡◌, cond, not, Err, MatchResult};
 ghost use Rattle.rules.specs.Kinds.{kind_number};
-ghost use Rattle.rules.specs.Range.{amount_to, at_till, option_in, unknown, fields, in_range};
+ghost use Rattle.rules.specs.Range.{amount_to, at_till, option_in, longest_certificate, fields_of, in_range};
 ghost use Rattle.rules.specs.Answer.{answered};
 ghost use Rattle.rules.specs.Accepted.{day_rows};
 
 use rules::kinds::Kind;
 use rules::limits::{
     APPROVAL_DAYS, CERTIFICATE_DAYS, FINAL_DAY, LAST_TILL, LEAST_PARTS, MOST_AMOUNT, MOST_DEPOSIT,
-    MOST_PARTS, MOST_RECEIPT,
+    MOST_PARTS, MOST_RECEIPT, SHORT_CERTIFICATE_DAYS, SHORT_CERTIFICATES_FROM,
 };
 use rules::refusals::Refusal;
 use rules::{Event, Fields, InRange};
@@ -49,9 +49,20 @@ fn option_in(m: u8, n: u8) -> Fields
     }
 }
 
-// The fields of a kind.
-fn fields_of(kind: Kind) -> Fields
-    ensures { result ≡ get_or fields (kind_number kind) unknown }
+// The most days of a certificate of day t.
+fn longest_certificate(t: u32) -> u64
+    ensures { result ≡ longest_certificate t }
+{
+    if u64::from(t) < SHORT_CERTIFICATES_FROM {
+        CERTIFICATE_DAYS
+    } else {
+        SHORT_CERTIFICATE_DAYS
+    }
+}
+
+// The fields of a kind in an event of day t.
+fn fields_of(kind: Kind, t: u32) -> Fields
+    ensures { result ≡ fields_of (kind_number kind) t }
 {
     match kind {
         Kind::Bill | Kind::DepositPaid | Kind::Payout => amount_to(MOST_AMOUNT),
@@ -59,7 +70,7 @@ fn fields_of(kind: Kind) -> Fields
         Kind::ReturnedPayment => at_till(MOST_RECEIPT),
         Kind::Fee => option_in(1, 3),
         Kind::DepositAsked => amount_to(MOST_DEPOSIT),
-        Kind::Certificate => amount_to(CERTIFICATE_DAYS),
+        Kind::Certificate => amount_to(longest_certificate(t)),
         Kind::Approval => amount_to(APPROVAL_DAYS),
         Kind::Arrangement => option_in(LEAST_PARTS, MOST_PARTS),
         Kind::Reconnection => option_in(0, 1),
@@ -76,7 +87,7 @@ fn in_range(e: Event) -> bool
     let Ok(kind) = Kind::try_from(e.kind) else {
         return false;
     };
-    let f = fields_of(kind);
+    let f = fields_of(kind, e.day);
     (f.option_from..=f.option_to).contains(&e.option)
         && (f.amount_from..=f.amount_to).contains(&e.amount)
 }

@@ -4,7 +4,7 @@ use mathlib.Core.Path.{◌≡◌, ap, ◌∙◌}
 use mathlib.Core.Bool.{true}
 use mathlib.Core.List.{List}
 use native.Mathlib.Omega.{arith}
-use lib.ListN.{length, get_or, set}
+use lib.ListN.{length, set}
 use lib.Seq.{get_or-set_same}
 use Rattle.std.proofs.Math.Seq.{take-set-lt}
 use Rattle.std.proofs.lemmas.List.{take-set-le, drop-set-lt, drop-set-add}
@@ -13,12 +13,12 @@ use Rattle.rules.specs.declared.Event.{Event}
 use Rattle.rules.specs.Kinds.{payment}
 use Rattle.rules.specs.History.{is}
 use Rattle.rules.specs.Limits.{last_till}
-use Rattle.rules.specs.Range.{unknown, fields, WellFormed}
+use Rattle.rules.specs.Range.{fields_of, WellFormed}
 use Rattle.rules.proofs.Ranged.{ranged}
 use Rattle.receipts.specs.Receipts.{Receipts, tills, receipts_on, receipts_after, count_by, place}
 
 -- of any kind: of these two the last option is the last till
-pub last_option : (k : ℕ) (e : Event) → WellFormed e → is k e ≡ true → e.option ≤ (get_or fields k unknown).option_to
+pub last_option : (k : ℕ) (e : Event) → WellFormed e → is k e ≡ true → e.option ≤ (fields_of k e.day).option_to
 last_option k e w q = (ranged k e w.fields_fit (eqb-true e.kind k q)).option_high
 
 -- the count of a payment's till, one more

@@ -137,6 +137,19 @@ ranges =
     ∷ ends "certificate of 0 days" (certificate 0 0 ∷ []) 3
     ∷ ends "certificate of 180 days" (certificate 0 180 ∷ []) 0
     ∷ ends "certificate of 181 days" (certificate 0 181 ∷ []) 3
+    ∷ ends "certificate of 180 days on day 9,496" (certificate 9_496 180 ∷ []) 0
+    ∷ ends "certificate of 181 days on day 9,496" (certificate 9_496 181 ∷ []) 3
+    ∷ ends "certificate of 180 days on day 9,497" (certificate 9_497 180 ∷ []) 3
+    ∷ ends "certificate of 181 days on day 9,497" (certificate 9_497 181 ∷ []) 3
+    ∷ ends "certificate of 0 days on day 9,497" (certificate 9_497 0 ∷ []) 3
+    ∷ ends "certificate with an option on day 9,497" (event 9 9_497 1 1 ∷ []) 3
+    ∷ ends "certificate of 91 days on 1 January 2027" (certificate 9_862 91 ∷ []) 3
+    ∷ ends "certificate of 90 days on the last day" (certificate 73_048 90 ∷ []) 0
+    ∷ ends "certificate of 91 days on the last day" (certificate 73_048 91 ∷ []) 3
+    ∷ ends "approval of 30 days on day 9,497" (approval 9_497 30 ∷ []) 0
+    ∷ ends "approval of 31 days on day 9,497" (approval 9_497 31 ∷ []) 3
+    ∷ ends "arrangement in 6 parts on day 9,497" (bill 9_477 60 ∷ arrangement 9_497 6 ∷ []) 0
+    ∷ ends "payment of 91 cents on day 9,497" (payment 9_497 91 ∷ []) 0
     ∷ ends "certificate with an option" (event 9 0 1 1 ∷ []) 3
     ∷ ends "approval of 0 days" (approval 0 0 ∷ []) 3
     ∷ ends "approval of 30 days" (approval 0 30 ∷ []) 0
@@ -406,6 +419,14 @@ notices =
     ∷ ends "a call on the day itself" (b ++ (call 25 ∷ cut_off 25 ∷ [])) 13
     ∷ []
 
+-- a bill of the first day of short certificates, a notice of it and a call
+abbrev debt : List Event
+debt = bill 9_497 6000 ∷ notice 9_570 ∷ call 9_578 ∷ []
+
+-- the longest certificate of the day before, and what a disconnection wants near its end
+abbrev long : List Event
+long = bill 9_496 6000 ∷ certificate 9_496 180 ∷ notice 9_666 ∷ call 9_674 ∷ []
+
 abbrev certificates : List Case
 certificates =
     ends "from its own day" (b ++ (call 22 ∷ certificate 25 1 ∷ cut_off 25 ∷ [])) 15
@@ -417,6 +438,18 @@ certificates =
     ∷ shows "a day later" (certified 185) (certificate 5 180 ∷ []) 0
     ∷ shows "none" (certified 5) (approval 5 30 ∷ []) 0
     ∷ shows "after closing too" (certified 5) (certificate 5 1 ∷ close 5 ∷ []) 1
+    ∷ shows "one of 180 days of day 9,496 on its last" (certified 9_675) (certificate 9_496 180 ∷ []) 1
+    ∷ shows "one of 180 days of day 9,496 a day later" (certified 9_676) (certificate 9_496 180 ∷ []) 0
+    ∷ ends "it bars a disconnection on its last" (long ++ (cut_off 9_675 ∷ [])) 15
+    ∷ ends "it bars none a day later" (long ++ (cut_off 9_676 ∷ [])) 0
+    ∷ shows "one of 90 days of day 9,497 on its last" (certified 9_586) (certificate 9_497 90 ∷ []) 1
+    ∷ shows "one of 90 days of day 9,497 a day later" (certified 9_587) (certificate 9_497 90 ∷ []) 0
+    ∷ shows "and another of 90 days that follows it" (certified 9_676) (certificate 9_497 90 ∷ certificate 9_587 90 ∷ []) 1
+    ∷ shows "one that is refused is live on no day" (certified 9_497) (certificate 9_497 91 ∷ []) 0
+    ∷ shows "one that is refused voids no approval" service_is (long ++ (approval 9_674 5 ∷ certificate 9_674 91 ∷ cut_off 9_675 ∷ [])) 1
+    ∷ ends "a short one voids the approvals before it" (long ++ (approval 9_674 5 ∷ certificate 9_674 90 ∷ cut_off 9_675 ∷ [])) 15
+    ∷ ends "a long one runs on past a short one posted after it" (certificate 9_400 180 ∷ certificate 9_497 1 ∷ (debt ++ (cut_off 9_579 ∷ []))) 15
+    ∷ ends "and ends where it would without" (certificate 9_400 180 ∷ certificate 9_497 1 ∷ (debt ++ (cut_off 9_580 ∷ []))) 0
     ∷ ends "an earlier one runs on" (b ++ (certificate 21 30 ∷ call 22 ∷ certificate 22 1 ∷ cut_off 25 ∷ [])) 15
     ∷ ends "a later one that is longer" (b ++ (certificate 21 1 ∷ call 22 ∷ certificate 22 30 ∷ cut_off 25 ∷ [])) 15
     ∷ ends "an approval that has run out" (b ++ (certificate 21 9 ∷ call 22 ∷ approval 22 3 ∷ cut_off 25 ∷ [])) 15

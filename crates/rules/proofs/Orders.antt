@@ -53,7 +53,10 @@ orders =
     ∷ ends "1 before 4" (close 5 ∷ bill 73049 1 ∷ []) 1
     ∷ ends "2 before 3" (call 5 ∷ event 99 4 9 9 ∷ []) 2
     ∷ ends "2 before 4" (close 5 ∷ bill 4 1 ∷ []) 2
+    ∷ ends "1 before 3, a certificate" (certificate 73_049 91 ∷ []) 1
+    ∷ ends "2 before 3, a certificate" (call 9_498 ∷ certificate 9_497 91 ∷ []) 2
     ∷ ends "3 before 4" (close 0 ∷ bill 0 0 ∷ []) 3
+    ∷ ends "3 before 4, a certificate" (close 9_497 ∷ certificate 9_497 91 ∷ []) 3
     ∷ ends "3 before 4, no kind" (close 0 ∷ event 99 0 0 0 ∷ []) 3
     ∷ ends "3 before 5" (reconnection 0 2 ∷ []) 3
     ∷ ends "3 before 9" (arrangement 0 7 ∷ []) 3

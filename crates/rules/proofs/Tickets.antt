@@ -1,7 +1,7 @@
 -- Document 02's own examples, ticket by ticket.
 use mathlib.Core.List.{List, [], ◌∷◌, ◌++◌}
 use Rattle.rules.specs.Tariff.{cents_of}
-use Rattle.rules.proofs.Events.{bill, payment, payment_at, returned, returned_at, times, owed, receipt, Case, ends, shows, bills}
+use Rattle.rules.proofs.Events.{bill, payment, payment_at, returned, returned_at, certificate, times, owed, receipt, Case, ends, shows, bills}
 
 abbrev pub tickets : List Case
 tickets =
@@ -14,4 +14,6 @@ tickets =
     ∷ ends "3: a stored return finds only 16" (times 20 (payment 0 9 ∷ []) ++ (returned 0 1 ∷ [])) 6
     ∷ ends "3: an option over 4, of a payment" (payment_at 5 0 9 ∷ []) 3
     ∷ ends "3: an option over 4, of a return" (payment 0 9 ∷ returned_at 5 0 1 ∷ []) 3
+    ∷ ends "6: 90 days on day 9,497" (certificate 9_497 90 ∷ []) 0
+    ∷ ends "6: more than 90 days on day 9,497" (certificate 9_497 91 ∷ []) 3
     ∷ []

@@ -68,10 +68,18 @@ year = 365
 abbrev pub most_notices : ℕ
 most_notices = 2
 
--- the longest certificate, and the longest approval, in days
+-- the longest certificate, in days, and the longest since they are shorter
 abbrev pub certificate_days : ℕ
 certificate_days = 180
 
+abbrev pub short_certificate_days : ℕ
+short_certificate_days = 90
+
+-- 1 January 2026, the first day of shorter certificates
+abbrev pub short_certificates_from : ℕ
+short_certificates_from = 9_497
+
+-- the longest approval, in days
 abbrev pub approval_days : ℕ
 approval_days = 30
 

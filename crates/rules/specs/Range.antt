@@ -1,8 +1,8 @@
--- Row 3: each kind has its fields, in their ranges; a field that it does not name is 0.
-use Rattle.std.specs.Prelude.{ℕ, ◌≤◌, Bool, true, ◌&&◌, ◌≡◌, List, [], ◌∷◌, get_or}
+-- Row 3: each kind has its fields, in their ranges; a field that it does not name is 0. How many days a certificate may have goes by its own day.
+use Rattle.std.specs.Prelude.{ℕ, ◌≤◌, Bool, true, ◌&&◌, cond, ◌≡◌, List, [], ◌∷◌, get_or, ltb}
 use Rattle.rules.specs.declared.Event.{Event}
 use Rattle.rules.specs.declared.Fields.{Fields}
-use Rattle.rules.specs.Limits.{final_day, most_amount, most_deposit, most_receipt, last_till, certificate_days, approval_days, least_parts, most_parts}
+use Rattle.rules.specs.Limits.{final_day, most_amount, most_deposit, most_receipt, last_till, certificate_days, short_certificate_days, short_certificates_from, approval_days, least_parts, most_parts}
 use Rattle.rules.specs.History.{within}
 
 -- the amount lies in 1 to n, and the option is not named
@@ -25,9 +25,13 @@ plain = option_in 0 0
 abbrev pub unknown : Fields
 unknown = option_in 1 0
 
--- the fields of the kinds, by number, from 0 on
-abbrev pub fields : List Fields
-fields =
+-- the most days of a certificate whose event is of day t: from 1 January 2026 on certificates are shorter (document 02, ticket 6)
+abbrev pub longest_certificate : ℕ → ℕ
+longest_certificate t = cond (ltb t short_certificates_from) certificate_days short_certificate_days
+
+-- the fields of the kinds in an event of day t, by number, from 0 on
+abbrev pub fields : ℕ → List Fields
+fields t =
     -- 0 is no kind
     unknown
     -- 1 bill: an amount A
@@ -44,7 +48,7 @@ fields =
     -- 8 payout: an amount A
     ∷ amount_to most_amount
     -- 9 certificate, 10 approval: a number of days
-    ∷ amount_to certificate_days
+    ∷ amount_to (longest_certificate t)
     ∷ amount_to approval_days
     -- 11 arrangement: a number of parts
     ∷ option_in least_parts most_parts
@@ -58,13 +62,17 @@ fields =
     ∷ plain
     ∷ []
 
+-- the fields of kind k in an event of day t
+abbrev pub fields_of : ℕ → ℕ → Fields
+fields_of k t = get_or (fields t) k unknown
+
 -- e's option and amount lie in the ranges
 abbrev pub fits : Fields → Event → Bool
 fits f e = within f.option_from f.option_to e.option && within f.amount_from f.amount_to e.amount
 
--- the kind is known, and its fields are in range
+-- the kind is known, and its fields are in range on the event's day
 unfoldable pub in_range : Event → Bool
-in_range e = fits (get_or fields e.kind unknown) e
+in_range e = fits (fields_of e.kind e.day) e
 
 -- an event that rows 1 and 3 let pass: its day and its fields are in range
 pub record WellFormed (e : Event) : Type 0 where

@@ -44,9 +44,15 @@ pub const CALL_DAYS: u64 = 3;
 // A deposit is earned after so many days full; its notices and disconnections are looked for as far back.
 pub const YEAR: u64 = 365;
 
-// The longest certificate, and the longest approval, in days.
+// The longest certificate, in days, and the longest since they are shorter.
 pub const CERTIFICATE_DAYS: u64 = 180;
 
+pub const SHORT_CERTIFICATE_DAYS: u64 = 90;
+
+// 1 January 2026, the first day of shorter certificates.
+pub const SHORT_CERTIFICATES_FROM: u64 = 9_497;
+
+// The longest approval, in days.
 pub const APPROVAL_DAYS: u64 = 30;
 
 // An arrangement's parts, at least and at most, and the days of each.
