@@ -27,7 +27,7 @@ pub struct Case<'a> {
 pub type Edge = (&'static str, fn(&Case) -> bool);
 
 /// A name for each bound and what meets it, of events posted to an account without a calendar.
-pub const EDGES: [Edge; 87] = [
+pub const EDGES: [Edge; 96] = [
     ("final notice at arrears of 5,000", |c| {
         c.is(NOTICE, 0) && c.arrears() == 5_000
     }),
@@ -141,6 +141,37 @@ pub const EDGES: [Edge; 87] = [
     ("cut where an earlier approval runs longer", |c| {
         c.is(CUT, 0) && c.certified() && c.outlived(APPROVAL)
     }),
+    ("certificate of 180 days on day 9,496", |c| {
+        c.certificate(9_496, 180) && c.answer == 0
+    }),
+    ("certificate of 181 days refused on day 9,496", |c| {
+        c.certificate(9_496, 181) && c.longer_than(180)
+    }),
+    ("certificate of 90 days on day 9,497", |c| {
+        c.certificate(9_497, 90) && c.answer == 0
+    }),
+    (
+        "certificate of 91 days refused as the first event of day 9,497",
+        |c| c.certificate(9_497, 91) && c.longer_than(90) && c.is_first_of_its_day(),
+    ),
+    ("certificate of 180 days refused on day 9,497", |c| {
+        c.certificate(9_497, 180) && c.longer_than(90)
+    }),
+    ("certificate of 91 days refused on the last day", |c| {
+        c.certificate(LAST_DAY, 91) && c.longer_than(90)
+    }),
+    (
+        "certificate of 91 to 180 days refused while an approval allows a cut",
+        |c| c.longer_than(90) && c.event.amount <= 180 && c.certified() && c.approved(),
+    ),
+    (
+        "cut refused on the last of a certificate's over 90 days, from 9,497 on",
+        |c| c.is(CUT, 15) && c.ends(CERTIFICATE, 1) && c.long_since_2026(),
+    ),
+    (
+        "cut on the day after a certificate's over 90 days, from 9,497 on",
+        |c| c.is(CUT, 0) && c.ends(CERTIFICATE, 0) && c.long_since_2026(),
+    ),
     ("deposit moved 365 days after it was full", |c| {
         c.is(DEPOSIT_MOVED, 0) && c.full_for(365)
     }),
@@ -414,6 +445,37 @@ impl Case<'_> {
 
     fn certified(&self) -> bool {
         medical::certified(self.accepted, self.event.day)
+    }
+
+    fn approved(&self) -> bool {
+        medical::approved(self.accepted, self.event.day)
+    }
+
+    /// Whether nothing was accepted on the event's day.
+    fn is_first_of_its_day(&self) -> bool {
+        self.accepted.iter().all(|e| e.day < self.event.day)
+    }
+
+    /// Whether the event is a certificate of a day, with so many days.
+    fn certificate(&self, day: u32, days: u64) -> bool {
+        let Event { kind, amount, .. } = self.event;
+        kind == CERTIFICATE && self.event.day == day && amount == days
+    }
+
+    /// Whether only its length is wrong: a certificate refused that would be accepted if it had so many days, and has more.
+    fn longer_than(&self, days: u64) -> bool {
+        let as_long = Event {
+            amount: days,
+            ..self.event
+        };
+        let refused = self.is(CERTIFICATE, 3) && self.event.amount > days;
+        refused && refusal(self.calendar, self.accepted, as_long) == 0
+    }
+
+    /// Whether the last certificate has more days than one of this day could have.
+    fn long_since_2026(&self) -> bool {
+        let long = self.last(CERTIFICATE).is_some_and(|e| e.amount > 90);
+        long && self.event.day >= 9_497
     }
 
     /// Whether the last certificate or approval has so many days left, this one among them.

@@ -4,7 +4,9 @@ use crate::peer::arrangement::Arrangement;
 use crate::peer::calendar::{working_days, Calendar, DAYS};
 use crate::peer::kind::*;
 use crate::peer::money::{late_charge, received_in_all, Money};
-use crate::peer::rows::{LARGEST_AMOUNT, LARGEST_DEPOSIT, LARGEST_TOTAL};
+use crate::peer::rows::{
+    longest_certificate, LARGEST_AMOUNT, LARGEST_DEPOSIT, LARGEST_TOTAL, NEW_YEAR_2026,
+};
 use crate::peer::{deposit, receipts, LAST_DAY};
 use tools::event::Event;
 
@@ -41,8 +43,10 @@ impl Writer<'_> {
             DEPOSIT_PAID => self.paid_amount(),
             PAYOUT => self.payout_amount(),
             CERTIFICATE => {
-                let some = self.random.between(1, 180);
-                self.random.pick(&[1, 4, 5, 6, 20, 180, some])
+                let longest = longest_certificate(day);
+                let some = self.random.between(1, longest);
+                self.random
+                    .pick(&[1, 4, 5, 6, 20, some, longest, longest + 1])
             }
             APPROVAL => {
                 let some = self.random.between(1, 30);
@@ -182,6 +186,10 @@ impl Writer<'_> {
     pub fn edge_days(&self) -> Vec<u32> {
         let today = self.today();
         let mut days: Vec<u32> = self.accepted().iter().flat_map(edges).collect();
+        // A history that is far from it has bounds of its own.
+        if today + 30 >= NEW_YEAR_2026 {
+            days.extend([NEW_YEAR_2026 - 1, NEW_YEAR_2026]);
+        }
         if let Some(calendar) = &self.posted.calendar {
             days.extend(calendar_edges(calendar, self.accepted()));
         }

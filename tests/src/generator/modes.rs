@@ -13,7 +13,7 @@ pub struct Mode {
     pub write: fn(&mut Writer),
 }
 
-pub const MODES: [Mode; 20] = [
+pub const MODES: [Mode; 21] = [
     mode("seventy months of bills", mixed::months),
     mode("returned checks", money::returned_checks),
     mode("notices and disconnections", collection::disconnections),
@@ -23,6 +23,7 @@ pub const MODES: [Mode; 20] = [
     mode("payment arrangements", collection::arrangements),
     mode("arrangements of a few cents", collection::small_debts),
     mode("certificates and approvals", collection::medical),
+    mode("certificates around 2026", collection::around_2026),
     mode("working days after a notice", calendar::working_days),
     mode("both ends of a calendar", calendar::ends),
     mode("sixty-four open items", money::open_items),

@@ -44,7 +44,7 @@ impl Writer<'_> {
     fn odd_amount(&mut self) -> u64 {
         let any = self.random.draw();
         let some = any >> self.random.below(64);
-        let edges = [0, 1, 30, 31, 180, 181, 100_000_000, 100_000_001];
+        let edges = [0, 1, 30, 31, 90, 91, 180, 181, 100_000_000, 100_000_001];
         let edge = self.random.pick(&edges);
         let large = [LARGEST_AMOUNT, LARGEST_AMOUNT + 1, 1 << 63, u64::MAX];
         let large = self.random.pick(&large);

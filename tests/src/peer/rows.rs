@@ -18,6 +18,11 @@ pub const LARGEST_DEPOSIT: u64 = 100_000_000;
 pub const LARGEST_TOTAL: i64 = 1_000_000_000_000;
 /// How many items may be open.
 pub const OPEN_ITEMS: usize = 64;
+/// 1 January 2026: a certificate of that day or later is shorter.
+pub const NEW_YEAR_2026: u32 = 9_497;
+/// The most days of a certificate of before that day, and of one of that day or later.
+pub const LONGEST_BEFORE_2026: u64 = 180;
+pub const LONGEST_FROM_2026: u64 = 90;
 
 /// The number that refuses an event after those accepted before it, on an account with this calendar or none; 0 where none
 /// does.
@@ -63,7 +68,16 @@ fn refuses(
     }
 }
 
-/// Whether kind, option and amount are in range, and 0 where the kind does not name them.
+/// The most days of a certificate by the day of its event.
+pub fn longest_certificate(day: u32) -> u64 {
+    match day < NEW_YEAR_2026 {
+        true => LONGEST_BEFORE_2026,
+        false => LONGEST_FROM_2026,
+    }
+}
+
+/// Whether kind, option and amount are in range, and 0 where the kind does not name them. The day counts for a certificate
+/// alone.
 pub fn well_formed(event: Event) -> bool {
     let Event { option, amount, .. } = event;
     match event.kind {
@@ -72,7 +86,7 @@ pub fn well_formed(event: Event) -> bool {
         RETURNED => option < TILLS && amount >= 1,
         FEE => (1..=3).contains(&option) && amount == 0,
         DEPOSIT_ASKED => option == 0 && (1..=LARGEST_DEPOSIT).contains(&amount),
-        CERTIFICATE => option == 0 && (1..=180).contains(&amount),
+        CERTIFICATE => option == 0 && (1..=longest_certificate(event.day)).contains(&amount),
         APPROVAL => option == 0 && (1..=30).contains(&amount),
         ARRANGEMENT => (2..=6).contains(&option) && amount == 0,
         RECONNECTION => option <= 1 && amount == 0,

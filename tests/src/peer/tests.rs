@@ -1,5 +1,6 @@
 //! The peer against the worked examples of document 01: the marked histories, an input for each row, the printed text.
 mod calendar;
+mod certificates;
 
 use super::*;
 use crate::make::{self, *};
@@ -98,11 +99,13 @@ fn fees_are_those_of_the_table() {
     }
 }
 
-#[test]
-fn row_three_at_the_ends_of_each_range() {
+/// A kind, the ends of its option, and the ends of its amount.
+type Fields = (u8, (u8, u8), (u64, u64));
+
+/// Those of every kind, on a day on which a certificate may have so many days.
+fn fields(certificate_days: u64) -> [Fields; 16] {
     let most = 10_000_000_000;
-    // Kind, the ends of its option, the ends of its amount.
-    let ranges = [
+    [
         (1, (0, 0), (1, most)),
         (2, (0, 4), (1, most)),
         (3, (0, 4), (1, u64::MAX)),
@@ -111,7 +114,7 @@ fn row_three_at_the_ends_of_each_range() {
         (6, (0, 0), (1, most)),
         (7, (0, 0), (0, 0)),
         (8, (0, 0), (1, most)),
-        (9, (0, 0), (1, 180)),
+        (9, (0, 0), (1, certificate_days)),
         (10, (0, 0), (1, 30)),
         (11, (2, 6), (0, 0)),
         (12, (0, 0), (0, 0)),
@@ -119,14 +122,22 @@ fn row_three_at_the_ends_of_each_range() {
         (14, (0, 0), (0, 0)),
         (15, (0, 1), (0, 0)),
         (16, (0, 0), (0, 0)),
-    ];
-    for (kind, (least, greatest), (from, to)) in ranges {
-        let fits = |option: u8, amount| last_answer(&[Event::new(kind, option, 0, amount)]) != 3;
-        assert!(fits(least, from) && fits(greatest, to), "kind {kind}");
-        assert!(least == 0 || !fits(least - 1, from), "kind {kind}");
-        assert!(from == 0 || !fits(least, from - 1), "kind {kind}");
-        assert!(!fits(greatest + 1, to), "kind {kind}");
-        assert!(to == u64::MAX || !fits(greatest, to + 1), "kind {kind}");
+    ]
+}
+
+#[test]
+fn row_three_at_the_ends_of_each_range() {
+    for (day, certificate_days) in [(0, 180), (9_496, 180), (9_497, 90), (73_048, 90)] {
+        for (kind, (least, greatest), (from, to)) in fields(certificate_days) {
+            let answer = |option, amount| last_answer(&[Event::new(kind, option, day, amount)]);
+            let fits = |option: u8, amount| answer(option, amount) != 3;
+            let which = format!("kind {kind} on day {day}");
+            assert!(fits(least, from) && fits(greatest, to), "{which}");
+            assert!(least == 0 || !fits(least - 1, from), "{which}");
+            assert!(from == 0 || !fits(least, from - 1), "{which}");
+            assert!(!fits(greatest + 1, to), "{which}");
+            assert!(to == u64::MAX || !fits(greatest, to + 1), "{which}");
+        }
     }
 }
 
@@ -409,13 +420,22 @@ fn a_notice_is_live_for_20_days_unless_it_lapses_or_is_used() {
 #[test]
 fn a_certificate_is_live_on_as_many_days_as_it_has() {
     let certified = |events: &[Event], day| on(events, day).certified;
-    for days in [1, 5, 179, 180] {
-        let events = [certificate(10, days)];
-        let end = 10 + days as u32;
-        assert_eq!(
-            [10, end - 1, end].map(|day| certified(&events, day)),
-            [true, true, false]
-        );
+    for (first, days) in [
+        (10, 1),
+        (10, 5),
+        (10, 179),
+        (10, 180),
+        // Those of before 2026 run their full length in it.
+        (9_317, 180),
+        (9_496, 91),
+        (9_496, 180),
+        (9_497, 90),
+        (72_958, 90),
+    ] {
+        let events = [certificate(first, days)];
+        let end = first + days as u32;
+        let live = [first, end - 1, end].map(|day| certified(&events, day));
+        assert_eq!(live, [true, true, false], "{days} days from {first} on");
     }
     // Earlier ones run on, and an approval ends none.
     let events = [certificate(10, 20), certificate(11, 2), approval(12, 30)];

@@ -4,6 +4,7 @@ use crate::generator::Writer;
 use crate::make::*;
 use crate::peer::kind::*;
 use crate::peer::receipts;
+use crate::peer::rows::{LONGEST_BEFORE_2026, LONGEST_FROM_2026, NEW_YEAR_2026};
 
 pub fn disconnections(w: &mut Writer) {
     for _ in 0..w.random.between(1, 4) {
@@ -188,4 +189,51 @@ pub fn medical(w: &mut Writer) {
         }
         w.go_to_reconnection();
     }
+}
+
+/// On the days around 1 January 2026, certificates of about the most days that one may have before it, and from it on.
+pub fn around_2026(w: &mut Writer) {
+    let first = NEW_YEAR_2026 - w.random.between(1, 20) as u32;
+    w.post(bill(first - 20, 9_000));
+    let steps = w.random.below(3);
+    w.walk(steps, &MEDICAL);
+    for day in NEW_YEAR_2026 - 1..NEW_YEAR_2026 + 2 {
+        for _ in 0..w.random.below(3) {
+            let longest = w.random.pick(&[LONGEST_FROM_2026, LONGEST_BEFORE_2026]);
+            let days = w.random.between(longest - 1, longest + 1);
+            w.post(certificate(day, days));
+        }
+    }
+    cut_at_the_ends(w);
+    let steps = w.random.below(8);
+    w.walk(steps, &COLLECTION);
+}
+
+/// A cut on the last day of the certificate that runs longest, and on the day after; first on those two days as they would be
+/// if it had no more days than one from 2026 on.
+fn cut_at_the_ends(w: &mut Writer) {
+    let certificates = w.accepted().iter().filter(|e| e.kind == CERTIFICATE);
+    let Some(&longest) = certificates.max_by_key(|e| u64::from(e.day) + e.amount) else {
+        return;
+    };
+    for days in [LONGEST_FROM_2026, longest.amount] {
+        let end = longest.day + days as u32;
+        let waited = w.random.between(6, 20) as u32;
+        w.post(notice(end - waited));
+        w.post(call(end - 2));
+        if w.random.once_in(4) {
+            approve_and_certify(w);
+        }
+        w.post(cut(end - 1));
+        w.post(cut(end));
+    }
+}
+
+/// An approval, and a certificate that would void it if it were not too long.
+fn approve_and_certify(w: &mut Writer) {
+    let day = w.today();
+    let days = w.random.between(2, 30);
+    w.post(approval(day, days));
+    let days = w.random.between(LONGEST_FROM_2026, LONGEST_BEFORE_2026 + 1);
+    w.post(certificate(day, days));
 }
