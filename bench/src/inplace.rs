@@ -9,6 +9,9 @@ const LIMIT: u64 = 1_000_000_000_000;
 const LARGEST_AMOUNT: u64 = 10_000_000_000;
 const LARGEST_DEPOSIT: u64 = 100_000_000;
 const ENOUGH_ARREARS: u64 = 5_000;
+const CERTIFICATE_DAYS: u64 = 180;
+const SHORT_CERTIFICATE_DAYS: u64 = 90;
+const SHORT_CERTIFICATES_FROM: u32 = 9_497;
 const OPEN: usize = 64;
 const TILLS: usize = 5;
 const KNOWN: u64 = 16;
@@ -383,7 +386,12 @@ impl Account {
     }
 
     fn certificate(&mut self, e: Record) -> u8 {
-        let number = self.amount_or_closed(e, 180);
+        let longest = if e.day < SHORT_CERTIFICATES_FROM {
+            CERTIFICATE_DAYS
+        } else {
+            SHORT_CERTIFICATE_DAYS
+        };
+        let number = self.amount_or_closed(e, longest);
         if number == 0 {
             self.certified_to = self.certified_to.max(e.day + e.amount as u32);
             self.approved_to = 0;
@@ -649,6 +657,7 @@ mod tests {
     use ::tests::books;
     use std::collections::BTreeSet;
     use tools::core;
+    use tools::event::Event;
 
     /// What is answered to the events of an account, and what is owed after each.
     fn replies(book: &[u8], account: usize) -> Vec<core::Reply> {
@@ -675,6 +684,22 @@ mod tests {
         }
         // Every number refused something, and 0 is accepted.
         assert_eq!(numbers, (0..=19).collect());
+    }
+
+    /// On both sides of the day from which on they are shorter, each on an account of its own.
+    #[test]
+    fn certificates_are_as_long_as_the_core_s() {
+        let mut list = Vec::new();
+        for day in [SHORT_CERTIFICATES_FROM - 1, SHORT_CERTIFICATES_FROM] {
+            for last in [0, SHORT_CERTIFICATE_DAYS, CERTIFICATE_DAYS] {
+                list.extend([last, last + 1].map(|days| vec![Event::of(9, day, days)]));
+            }
+        }
+        let book = core::books::write(&list).unwrap();
+        for (account, events) in list.iter().enumerate() {
+            let by_core = core::history(&book, account).unwrap();
+            assert_eq!(replies(&book, account), by_core, "{events:?}");
+        }
     }
 
     #[test]

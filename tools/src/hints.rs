@@ -13,6 +13,7 @@ use std::fmt;
 
 const PAYMENT: u8 = 2;
 const RETURNED_PAYMENT: u8 = 3;
+const CERTIFICATE: u8 = 9;
 const ARRANGEMENT: u8 = 11;
 const FINAL_NOTICE: u8 = 12;
 const CALL: u8 = 13;
@@ -30,6 +31,12 @@ pub const IN_ARREARS_AFTER: u32 = 20;
 pub const DEPOSIT_DAYS: u32 = 365;
 /// So many final notices in those days are not too many.
 pub const DEPOSIT_NOTICES: usize = 2;
+/// So many days a certificate has at most.
+pub const CERTIFICATE_DAYS: u64 = 180;
+/// Certificates of this day and later, 1 January 2026, are shorter.
+pub const SHORT_CERTIFICATES_FROM: u32 = 9_497;
+/// So many days they have at most.
+pub const SHORT_CERTIFICATE_DAYS: u64 = 90;
 
 /// Days from the first to the last, both among them.
 #[derive(Clone, Copy, Debug, PartialEq, Eq)]
@@ -137,6 +144,7 @@ pub fn hint(number: u8, event: &Event, before: &Before) -> Option<String> {
     let t = event.day;
     match number {
         2 => last_event(before),
+        3 if event.kind == CERTIFICATE => certificate_days(event),
         6 => Some(receipt(event.option, event.amount, before)),
         8 => Some(deposit(t)),
         9 => arrangement_refused(t, before),
@@ -157,6 +165,19 @@ pub fn hint(number: u8, event: &Event, before: &Before) -> Option<String> {
 fn last_event(before: &Before) -> Option<String> {
     let last = before.accepted.last()?;
     Some(format!("the last accepted event is of {}", day(last.day)))
+}
+
+/// Nothing where the days are in range: then it has an option, and the words of the event show it.
+fn certificate_days(event: &Event) -> Option<String> {
+    let from = day(SHORT_CERTIFICATES_FROM);
+    let (when, most) = if event.day < SHORT_CERTIFICATES_FROM {
+        (format!("before {from}"), CERTIFICATE_DAYS)
+    } else {
+        (format!("from {from} on"), SHORT_CERTIFICATE_DAYS)
+    };
+    let days = event.amount;
+    let told = || format!("{when} a certificate has 1 to {most} days; this one has {days}");
+    (!(1..=most).contains(&days)).then(told)
 }
 
 /// The till is told even where it is 0: a return that names the wrong one is the likely mistake.
@@ -514,6 +535,21 @@ mod tests {
             told(1, 2),
             "only the newest 16 of 40 payments at till 1 can be returned"
         );
+    }
+
+    #[test]
+    fn a_certificate_shows_how_many_days_it_may_have() {
+        let told = |event: Event| hint(3, &event, &Before::default());
+        assert_eq!(
+            told(event(CERTIFICATE, 9_496, 181)).as_deref(),
+            Some("before day 9497 (2026-01-01) a certificate has 1 to 180 days; this one has 181")
+        );
+        assert_eq!(
+            told(event(CERTIFICATE, 9_497, 120)).as_deref(),
+            Some("from day 9497 (2026-01-01) on a certificate has 1 to 90 days; this one has 120")
+        );
+        // What is wrong with it is its option.
+        assert_eq!(told(Event::new(CERTIFICATE, 2, 9_497, 90)), None);
     }
 
     #[test]

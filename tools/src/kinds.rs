@@ -66,7 +66,12 @@ pub const KINDS: [Kind; 16] = [
     kind("deposit-paid", Named::Amount, "its amount in cents"),
     kind("deposit-moved", Named::Nothing, ""),
     kind("payout", Named::Amount, "its amount in cents"),
-    kind("certificate", Named::Amount, "its days, 1 to 180").or(&["medical-certificate"]),
+    kind(
+        "certificate",
+        Named::Amount,
+        "its days, 1 to 180 (1 to 90 from day 9497, 2026-01-01, on)",
+    )
+    .or(&["medical-certificate"]),
     kind("approval", Named::Amount, "its days, 1 to 30"),
     kind("arrangement", Named::Option, "its parts, 2 to 6").or(&["payment-arrangement"]),
     kind("notice", Named::Nothing, "").or(&["final-notice"]),

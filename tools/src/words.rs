@@ -59,6 +59,7 @@ pub fn reason(number: u8, kind: u8) -> &'static str {
     match (number, kind) {
         (3, 2) => "the amount or the till is out of its range; the tills are 0 to 4",
         (3, 3) => "the receipt or the till is out of its range; the tills are 0 to 4",
+        (3, 9) => "it has no days, or too many for its day, or an option",
         (5, 15) => "service is not off",
         (5, _) => "service is not on",
         (7, 5) => "the deposit asked is not over what is held",
@@ -217,6 +218,7 @@ mod tests {
         }
         assert!(reason(3, 2).starts_with("the amount or the till is out of"));
         assert!(reason(3, 3).starts_with("the receipt or the till is out of"));
+        assert!(reason(3, 9).contains("too many for its day"));
         assert_eq!(reason(3, 1), meaning(3));
         assert_eq!(reason(12, 14), meaning(12));
     }

@@ -27,13 +27,14 @@ fn names() -> Vec<String> {
 }
 
 #[test]
-fn there_are_six() {
+fn there_are_seven() {
     let expected = [
         "deposit-way",
         "family-in-arrears",
         "five-working-days",
         "sample",
         "shop-with-returned-checks",
+        "shorter-certificates",
         "three-tills",
     ];
     assert_eq!(names(), expected);
@@ -101,6 +102,36 @@ fn the_calendar_moves_the_disconnection() {
     };
     assert_eq!(numbers(None), [0, 0, 0, 0, 5, 5]);
     assert_eq!(numbers(Some(&calendar)), [0, 0, 0, 12, 0, 0]);
+}
+
+/// The last days that its remarks name, and the answers: a disconnection is refused up to that day, and not after it.
+#[test]
+fn a_certificate_bars_the_disconnection_to_its_last_day() {
+    let remarks = String::from_utf8(read("shorter-certificates", "txt")).unwrap();
+    let list = books::read(&read("shorter-certificates", "book")).unwrap();
+    for (events, numbers, last, date) in [
+        (
+            &list[0],
+            &[0, 0, 0, 0, 0, 0, 15, 0, 0, 0, 0, 15, 0][..],
+            "live to day 9675, 28 June",
+            "live to day 9675 (2026-06-28)",
+        ),
+        (
+            &list[1],
+            &[0, 3, 0, 0, 0, 0, 0, 15, 0],
+            "live to day 9594, 8 April",
+            "live to day 9594 (2026-04-08)",
+        ),
+    ] {
+        assert!(remarks.contains(last), "{last}");
+        let (_, steps) = History::of(events);
+        let answers: Vec<u8> = steps.iter().map(|step| step.number()).collect();
+        assert_eq!(answers, numbers);
+        for step in steps.iter().filter(|step| step.number() == 15) {
+            let note = step.note.as_deref().unwrap();
+            assert!(note.ends_with(date), "{note}");
+        }
+    }
 }
 
 /// What `hollupaq why` tells is taken of an account that is posted to: it is the core's history of the book, and its standing.

@@ -9,7 +9,8 @@ use tools::dates::{day, day_of, LAST_DAY};
 use tools::event::Event;
 use tools::hints::{
     arrears_days, call_days, conduct_from, full_days, hint, notice_days, under, Before, Days,
-    DEPOSIT_NOTICES, NOTICE_LASTS, NOTICE_WAITS, RETURNABLE,
+    CERTIFICATE_DAYS, DEPOSIT_NOTICES, NOTICE_LASTS, NOTICE_WAITS, RETURNABLE,
+    SHORT_CERTIFICATES_FROM, SHORT_CERTIFICATE_DAYS,
 };
 use tools::words::counted;
 
@@ -386,8 +387,47 @@ fn bars_to_the_day_told(number: u8, bar: Event, end: u32) {
 
 #[test]
 fn a_certificate_is_live_to_the_day_told() {
-    for days in [5, 30, 180] {
-        bars_to_the_day_told(15, certificate(100, days), 100 + days as u32 - 1);
+    // A long one is not cut short where it runs on past the day from which on they are shorter.
+    let from = SHORT_CERTIFICATES_FROM;
+    for (first, days) in [
+        (100, 5),
+        (100, 30),
+        (100, CERTIFICATE_DAYS),
+        (from - CERTIFICATE_DAYS as u32, CERTIFICATE_DAYS),
+        (from - 1, CERTIFICATE_DAYS),
+        (from, SHORT_CERTIFICATE_DAYS),
+    ] {
+        bars_to_the_day_told(15, certificate(first, days), first + days as u32 - 1);
+    }
+}
+
+#[test]
+fn a_certificate_has_so_many_days_at_most() {
+    let from = SHORT_CERTIFICATES_FROM;
+    for (t, most) in [
+        (0, CERTIFICATE_DAYS),
+        (from - 1, CERTIFICATE_DAYS),
+        (from, SHORT_CERTIFICATE_DAYS),
+        (LAST_DAY, SHORT_CERTIFICATE_DAYS),
+    ] {
+        for days in (0..=2 * CERTIFICATE_DAYS).chain([u64::MAX]) {
+            let event = certificate(t, days);
+            let told = hint(3, &event, &before(&[]));
+            assert_eq!(refused_by(3, &[event]), told.is_some(), "{event:?}");
+            let range = format!(" a certificate has 1 to {most} days; this one has {days}");
+            assert!(told.is_none_or(|told| told.ends_with(&range)), "{event:?}");
+        }
+        // One with an option is refused for that: its days are told only where they are out of range too.
+        for (days, is_told) in [(most, false), (most + 1, true)] {
+            let option = 1;
+            let event = Event {
+                option,
+                ..certificate(t, days)
+            };
+            assert!(refused_by(3, &[event]));
+            let told = hint(3, &event, &before(&[]));
+            assert_eq!(told.is_some(), is_told, "{event:?}");
+        }
     }
 }
 

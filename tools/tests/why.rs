@@ -129,6 +129,8 @@ const WRONG: &str = "\
 --try 131 bil 5 => `bil` is no event; the events are bill, payment, returned, 
 --try 131 payment => `payment` needs its amount in cents
 --try 131 payment 40.00 => expected its amount in cents as a whole number, found `40.00`
+--try 131 certificate => `certificate` needs its days, 1 to 180 (1 to 90 from day 9497, 2026-01-01, on)
+--try 131 certificate long => expected its days, 1 to 180 (1 to 90 from day 9497, 2026-01-01, on) as a whole number, found `long`
 --try 131 payment 4000 3 => `payment` takes one number, and `3` is left over; its till is written till=N
 --try 131 payment 4000 till=box => expected the till as a whole number, found `box`
 --try cut => expected the day as a date or a whole number, found `cut`
@@ -223,6 +225,46 @@ day  date        event                        owed  answer
     assert!(
         told.ends_with(" would be accepted, 40.00 charged again, 25.00 returned check fee added\n")
     );
+}
+
+/// Certificates on both sides of the day from which on they are shorter.
+const CERTIFICATES: &[u8] = b"account
+  9496 certificate 181
+  9496 certificate 180
+  9497 certificate 120
+  9497 certificate 90
+  9497 certificate 0
+  9497 certificate 5 option=2
+";
+
+#[test]
+fn a_certificate_that_is_too_long_is_told_its_range() {
+    let expected = "\
+Account 0 of 1. Sums are in dollars.
+
+ day  date        event                                  owed  answer
+9496  2025-12-31  medical certificate, 181 days          0.00  refused 3: it has no days, or too many for its day, or an option
+                                                                 before day 9497 (2026-01-01) a certificate has 1 to 180 days; this one has 181
+9496  2025-12-31  medical certificate, 180 days          0.00  accepted
+9497  2026-01-01  medical certificate, 120 days          0.00  refused 3: it has no days, or too many for its day, or an option
+                                                                 from day 9497 (2026-01-01) on a certificate has 1 to 90 days; this one has 120
+9497  2026-01-01  medical certificate, 90 days           0.00  accepted
+9497  2026-01-01  medical certificate, 0 days            0.00  refused 3: it has no days, or too many for its day, or an option
+                                                                 from day 9497 (2026-01-01) on a certificate has 1 to 90 days; this one has 0
+9497  2026-01-01  medical certificate, 5 days, option 2  0.00  refused 3: it has no days, or too many for its day, or an option
+
+Standing: 0.00 owed, no deposit held, no open charges, service on, 4 events refused.
+";
+    let book = pack(CERTIFICATES);
+    assert_eq!(printed(run("why -", &book)), expected);
+    // The one of the year before runs its full length.
+    let told = printed(run("why - --on 9675", &book));
+    let live = "\nmedical certificate  live to day 9675 (2026-06-28)\n";
+    assert!(told.contains(live), "{told}");
+    // A sheet has no hints.
+    let told = printed(run("why - --csv", &book));
+    let line = "\n9497,2026-01-01,certificate,0,120,3,,0,0,\"it has no days, or too many for its day, or an option\"\n";
+    assert!(told.contains(line), "{told}");
 }
 
 #[test]

@@ -6,7 +6,7 @@ use tools::core::bills::{bill, reading};
 use tools::core::Answer;
 use tools::dates::{date, LAST_DAY};
 use tools::event::Event;
-use tools::kinds::{Named, KINDS};
+use tools::kinds::{of_word, Named, KINDS};
 use tools::words::{self, meaning};
 
 const ACCEPTED: Answer = Answer::Accepted(0);
@@ -18,10 +18,14 @@ fn numbers(text: &str) -> Vec<u64> {
     words.filter_map(|digits| digits.parse().ok()).collect()
 }
 
-/// Whether a kind takes an option and an amount.
-fn takes(kind: usize, option: u64, amount: u64) -> bool {
-    let event = Event::new(kind as u8 + 1, option as u8, 0, amount);
+/// Whether a kind takes an option and an amount on a day.
+fn takes_on(day: u32, kind: usize, option: u64, amount: u64) -> bool {
+    let event = Event::new(kind as u8 + 1, option as u8, day, amount);
     last_answer(&[event]) != Answer::Refused(3)
+}
+
+fn takes(kind: usize, option: u64, amount: u64) -> bool {
+    takes_on(0, kind, option, amount)
 }
 
 #[test]
@@ -50,6 +54,18 @@ fn a_kind_names_the_field_that_the_core_takes() {
     }
 }
 
+/// The number of a kind lies in the range on a day, as the core has it.
+fn is_its_range(at: usize, day: u32, first: u64, last: u64) {
+    let kind = &KINDS[at];
+    let takes = |number| match kind.named {
+        Named::Option => takes_on(day, at, number, 0),
+        _ => takes_on(day, at, 0, number),
+    };
+    assert!(takes(first) && takes(last), "{} {day}", kind.word);
+    assert!(!takes(last + 1), "{} {day}", kind.word);
+    assert!(first == 0 || !takes(first - 1), "{} {day}", kind.word);
+}
+
 #[test]
 fn a_range_that_is_told_is_the_core_s() {
     let mut told = 0;
@@ -57,17 +73,32 @@ fn a_range_that_is_told_is_the_core_s() {
         let [first, last] = numbers(kind.number)[..] else {
             continue;
         };
-        let takes = |number| match kind.named {
-            Named::Option => takes(at, number, 0),
-            _ => takes(at, 0, number),
-        };
-        assert!(takes(first) && takes(last), "{}", kind.word);
-        assert!(!takes(last + 1), "{}", kind.word);
-        assert!(first == 0 || !takes(first - 1), "{}", kind.word);
+        for day in [0, LAST_DAY] {
+            is_its_range(at, day, first, last);
+        }
         told += 1;
     }
-    // Fees, certificates, approvals, arrangements and reconnections.
-    assert_eq!(told, 5);
+    // Fees, approvals, arrangements and reconnections.
+    assert_eq!(told, 4);
+}
+
+/// Of a certificate two ranges are told, and with its date the day from which on the second holds.
+#[test]
+fn the_ranges_of_a_certificate_are_the_core_s() {
+    let at = usize::from(of_word("certificate").unwrap()) - 1;
+    let told = KINDS[at].number;
+    let [first, last, later_first, later_last, from, _, _, _] = numbers(told)[..] else {
+        panic!("{told}");
+    };
+    let from = from as u32;
+    let both = format!("day {from}, {},", date(from).unwrap());
+    assert!(told.contains(&both), "{told}");
+    for day in [0, from - 1] {
+        is_its_range(at, day, first, last);
+    }
+    for day in [from, LAST_DAY] {
+        is_its_range(at, day, later_first, later_last);
+    }
 }
 
 #[test]
