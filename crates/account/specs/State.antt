@@ -62,10 +62,10 @@ sizes = 1 ∷ 1 ∷ collection_size ∷ deposit_size ∷ medical_size ∷ arrang
 abbrev pub account_size : ℕ
 account_size = 274
 
--- the number of this layout: a million and four, so that no day is it, with which an account once began. An account that was laid out otherwise,
+-- the number of this layout: a million and five, so that no day is it, with which an account once began. An account that was laid out otherwise,
 -- or was made while other events were accepted, has another
 abbrev pub layout_number : ℕ
-layout_number = 1000004
+layout_number = 1000005
 
 -- the account of these spans
 abbrev pub state_of : List (List ℕ) → State

@@ -34,9 +34,9 @@ pub const WORKDAYS: usize = LEDGER + ledger::WORDS;
 // how many words an account has
 pub const WORDS: usize = WORKDAYS + workdays::WORDS;
 
-// The number of this layout: a million and four. An account once began with a day, and no day is so large. One that is laid out otherwise,
+// The number of this layout: a million and five. An account once began with a day, and no day is so large. One that is laid out otherwise,
 // or was made while other events were accepted, has another number.
-pub const LAYOUT_NUMBER: u64 = 1_000_004;
+pub const LAYOUT_NUMBER: u64 = 1_000_005;
 
 // The words of the three parts that are read where they lie, with their length in the type.
 pub(crate) fn receipts_in(m: &[u64; WORDS]) -> &[u64; receipts::WORDS]

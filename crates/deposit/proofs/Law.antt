@@ -4,13 +4,13 @@ use mathlib.Core.Path.{◌≡◌, sym, ap, ◌∙◌}
 use mathlib.Core.Bool.{true, ◌&&◌, and_assoc}
 use mathlib.Core.List.{[], ◌∷◌}
 use native.Mathlib.Omega.{arith}
-use lib.Dec.{leb}
 use borrow.Author.Tests.{le-leb}
 use Rattle.basics.proofs.Cases.{on}
 use Rattle.std.specs.Prelude.{Option}
 use Rattle.rules.specs.declared.Calendar.{Calendar}
 use Rattle.rules.specs.Kinds.{deposit_asked, deposit_paid}
-use Rattle.rules.specs.Limits.{final_day, year}
+use Rattle.rules.specs.Limits.{final_day}
+use Rattle.rules.specs.Dates.{year_later, has_come}
 use Rattle.rules.specs.History.{History, last_posted}
 use Rattle.rules.specs.Deposit.{moves, held, required, full, full_on, earned}
 use Rattle.rules.specs.Accepted.{Lawful}
@@ -19,7 +19,7 @@ use Rattle.rules.proofs.Bounds.{sorted, in_days, held_in_lem}
 use Rattle.deposit.specs.declared.Deposit.{Deposit}
 use Rattle.deposit.specs.Conduct.{conduct_of, conduct_ok}
 use Rattle.deposit.specs.Deposit.{deposit_after, deposit_of, earned_by, deposit_ok, DepositFit}
-use Rattle.deposit.proofs.Windows.{year_kept, quiet_is}
+use Rattle.deposit.proofs.Windows.{conduct_kept, quiet_is}
 use Rattle.deposit.proofs.Full.{paid_on, paid_in, full_is}
 
 -- whatever the history, the part holds the rules' values, and the day of the newest deposit paid
@@ -32,7 +32,7 @@ deposit_is (e ∷ h) =
 
 conduct_ok_lem : (c : Option Calendar) (h : History) → Lawful c h → conduct_ok (conduct_of h) ≡ true
 conduct_ok_lem c h w =
-    let k = year_kept h (sorted c h w) in
+    let k = conduct_kept h (sorted c h w) in
     let d = in_days c h w in
     simp (
       le-leb (conduct_of h).first (final_day + 1) (omega arith),
@@ -41,8 +41,8 @@ conduct_ok_lem c h w =
       le-leb (conduct_of h).cut (final_day + 1) (omega arith),
     )
 
--- full for 365 days
-long_is : (c : Option Calendar) (h : History) → Lawful c h → (t : ℕ) → (full h && leb (paid_on h + year) t) ≡ (full h && leb (full_on h + year) t)
+-- the same date one year after the newest deposit paid, of a full deposit
+long_is : (c : Option Calendar) (h : History) → Lawful c h → (t : ℕ) → (full h && has_come (year_later (paid_on h)) t) ≡ (full h && has_come (year_later (full_on h)) t)
 long_is c h w t = on (full h) (λ f. rw (full_is c h w f)) (λ f. rw f)
 
 pub record DepositLaw (h : History) : Type 0 where
@@ -59,7 +59,7 @@ deposit_law c h w =
       held_is = rw (deposit_is h);
       required_is = rw (deposit_is h);
       full_is = λ f. rw (deposit_is h) (full_is c h w f);
-      earned_is = λ t l. rw (deposit_is h, quiet_is h t (sorted c h w) l, long_is c h w t) (sym (and_assoc (full h && leb (full_on h + year) t) _ _));
+      earned_is = λ t l. rw (deposit_is h, quiet_is h t (sorted c h w) l, long_is c h w t) (sym (and_assoc (full h && has_come (year_later (full_on h)) t) _ _));
       passes = rw (deposit_is h) (simp (le-leb _ _ k.held_le, le-leb _ _ k.required_le, le-leb _ _ (paid_in c h w), conduct_ok_lem c h w));
     }
 

@@ -2,7 +2,7 @@
 use Rattle.std.specs.Prelude.{ℕ, ◌+◌, ◌-◌, Bool, cond, not, ◌&&◌, [], ◌∷◌, leb}
 use Rattle.rules.specs.declared.Event.{Event}
 use Rattle.rules.specs.Kinds.{final_notice, disconnection}
-use Rattle.rules.specs.Limits.{final_day, year}
+use Rattle.rules.specs.Limits.{final_day, conduct_days}
 use Rattle.rules.specs.History.{History, is}
 use Rattle.deposit.specs.declared.Conduct.{Conduct}
 
@@ -23,12 +23,12 @@ conduct_of [] = no_conduct
 conduct_of (e ∷ h) = conduct_after (conduct_of h) e
 
 -- next is the day after some day of the 365 up to t
-unfoldable pub in_year_by : ℕ → ℕ → Bool
-in_year_by next t = leb 1 next && leb t (next + (year - 2))
+unfoldable pub recent_by : ℕ → ℕ → Bool
+recent_by next t = leb 1 next && leb t (next + (conduct_days - 2))
 
 -- at most two notices, and no disconnection, in the 365 days up to t
 abbrev pub quiet_by : Conduct → ℕ → Bool
-quiet_by w t = not (in_year_by w.third t) && not (in_year_by w.cut t)
+quiet_by w t = not (recent_by w.third t) && not (recent_by w.cut t)
 
 abbrev pub conduct_ok : Conduct → Bool
 conduct_ok w = leb w.first (final_day + 1) && leb w.second w.first && leb w.third w.second && leb w.cut (final_day + 1)

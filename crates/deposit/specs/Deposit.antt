@@ -2,7 +2,8 @@
 use Rattle.std.specs.Prelude.{ℕ, ◌+◌, ◌≤◌, Bool, cond, ◌&&◌, ◌||◌, List, [], ◌∷◌, leb, ltb, eqb, get_or}
 use Rattle.rules.specs.declared.Event.{Event}
 use Rattle.rules.specs.Kinds.{deposit_asked, deposit_paid, deposit_moved, final_notice, disconnection, closing}
-use Rattle.rules.specs.Limits.{final_day, most_deposit, year}
+use Rattle.rules.specs.Limits.{final_day, most_deposit}
+use Rattle.rules.specs.Dates.{year_later, has_come}
 use Rattle.rules.specs.History.{History, is, amount_if}
 use Rattle.rules.specs.Deposit.{moves}
 use Rattle.deposit.specs.declared.Deposit.{Deposit}
@@ -38,7 +39,7 @@ deposit_of [] = no_deposit
 deposit_of (e ∷ h) = deposit_after (deposit_of h) e
 
 abbrev pub earned_by : Deposit → ℕ → Bool
-earned_by d t = is_full d && leb (d.full_on + year) t && quiet_by d.conduct t
+earned_by d t = is_full d && has_come (year_later d.full_on) t && quiet_by d.conduct t
 
 abbrev pub deposit_ok : Deposit → Bool
 deposit_ok d =

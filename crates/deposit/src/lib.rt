@@ -1,22 +1,22 @@
 // The deposit, in its own words of an account's memory: what is held and required, since when it is full, and the final notices
-// and disconnections of the last year, which bar its return.
+// and disconnections of the last 365 days, which bar its return.
 #![tactic(auto)]
 
 ghost use Rattle.std.specs.Prelude.{◌≡◌, length};
 ghost use Rattle.span.proofs.Law.{whole as all_words};
 ghost use Rattle.deposit.specs.Deposit.{is_full, deposit_after, concerns, deposit_ok, DepositFit, earned_by, deposit_size, deposit_on, deposit_words};
-ghost use Rattle.deposit.specs.Conduct.{conduct_after, in_year_by, quiet_by, conduct_ok};
+ghost use Rattle.deposit.specs.Conduct.{conduct_after, recent_by, quiet_by, conduct_ok};
 
 use rules::kinds::Kind;
-use rules::limits::{FINAL_DAY, MOST_DEPOSIT, YEAR};
+use rules::limits::{CONDUCT_DAYS, FINAL_DAY, MOST_DEPOSIT};
 use rules::{Event, InRange};
 use span::Part;
 
 // How many days from the day after an event to the last of the 365 days in which it bars a return.
-const BARS_FOR: u64 = YEAR - 2;
+const BARS_FOR: u64 = CONDUCT_DAYS - 2;
 
 // The days after the three newest final notices, newest first, and the day after the newest disconnection; 0 for none: all are
-// words of memory, whose layout is fixed. A third notice within the year is one too many, so older ones are never asked for. Three
+// words of memory, whose layout is fixed. A third notice within 365 days is one too many, so older ones are never asked for. Three
 // fields and no array: a notice moves each to the next, and only the third is asked for.
 #[derive(Clone, Copy)]
 pub struct Conduct {
@@ -36,9 +36,9 @@ pub struct Deposit {
 }
 
 // Whether the day before `next`, if there is one, lies in the 365 days up to t.
-#[tactic(auto, unfolding(crate::specs::Conduct::in_year_by))]
-fn in_year(next: u64, t: u64) -> bool
-    ensures { result ≡ in_year_by next t }
+#[tactic(auto, unfolding(crate::specs::Conduct::recent_by))]
+fn recent(next: u64, t: u64) -> bool
+    ensures { result ≡ recent_by next t }
 {
     1 <= next && t.saturating_sub(next) <= BARS_FOR
 }
@@ -65,7 +65,7 @@ impl Conduct {
     fn quiet(self, t: u64) -> bool
         ensures { result ≡ quiet_by self t }
     {
-        !in_year(self.third, t) && !in_year(self.cut, t)
+        !recent(self.third, t) && !recent(self.cut, t)
     }
 
     fn ok(self) -> bool
@@ -118,7 +118,9 @@ impl Deposit {
     pub fn earned(self, t: u64) -> bool
         ensures { result ≡ earned_by self t }
     {
-        self.is_full() && YEAR <= t.saturating_sub(self.full_on) && self.conduct.quiet(t)
+        self.is_full()
+            && dates::year_later(self.full_on).is_some_and(|day| day <= t)
+            && self.conduct.quiet(t)
     }
 }
 

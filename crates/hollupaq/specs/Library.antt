@@ -22,9 +22,9 @@ use Rattle.claim.specs.Run.{LeftBy}
 use Rattle.claim.specs.Claim.{ClaimOf}
 use Rattle.report.specs.Report.{print_length, printed_in}
 
--- version 1.5.0: ten thousands, hundreds and ones
+-- version 1.6.0: ten thousands, hundreds and ones
 abbrev pub library_version : ℕ
-library_version = 10500
+library_version = 10600
 
 -- under 256 the number that refuses; where none does, 256 and the value asked for
 abbrev pub told : ℕ → ℕ → ℕ

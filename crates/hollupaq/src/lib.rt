@@ -17,7 +17,7 @@ use rules::refusals::{Refusal, number_of};
 
 // The version of the library: 10,000 for each change that a program has to be changed for, 100 for each that adds something or answers an
 // event otherwise, 1 for each that only mends. include/hollupaq.h has the same number.
-const VERSION: u64 = 10_500;
+const VERSION: u64 = 10_600;
 
 // What is answered from here on is accepted, or told: 256 and the value. Below it stands the number that refuses, or that there is none to tell.
 const ACCEPTED: u64 = 256;

@@ -295,33 +295,33 @@ deposits =
     ∷ ends "moved, none required" (moved 400 ∷ []) 7
     ∷ ends "moved, not full" (asked_deposit 0 100 ∷ paid 0 99 ∷ moved 400 ∷ []) 7
     ∷ ends "moved, a sum asked and nothing paid" (asked_deposit 0 100 ∷ moved 400 ∷ []) 7
-    ∷ ends "full for 365 days" (asked_deposit 10 100 ∷ paid 10 100 ∷ moved 375 ∷ []) 0
-    ∷ ends "full from the last part on" (asked_deposit 0 100 ∷ paid 0 60 ∷ paid 10 40 ∷ moved 374 ∷ []) 8
-    ∷ ends "full from the last part on, 365 days" (asked_deposit 0 100 ∷ paid 0 60 ∷ paid 10 40 ∷ moved 375 ∷ []) 0
-    ∷ ends "later events leave it full" (full ++ (call 5 ∷ bill 6 9 ∷ moved 365 ∷ [])) 0
+    ∷ ends "full for a year" (asked_deposit 10 100 ∷ paid 10 100 ∷ moved 376 ∷ []) 0
+    ∷ ends "full from the last part on" (asked_deposit 0 100 ∷ paid 0 60 ∷ paid 10 40 ∷ moved 375 ∷ []) 8
+    ∷ ends "full from the last part on, a year" (asked_deposit 0 100 ∷ paid 0 60 ∷ paid 10 40 ∷ moved 376 ∷ []) 0
+    ∷ ends "later events leave it full" (full ++ (call 5 ∷ bill 6 9 ∷ moved 366 ∷ [])) 0
     ∷ ends "a higher sum asked ends it" (full ++ (asked_deposit 5 150 ∷ moved 400 ∷ [])) 7
-    ∷ ends "and it begins again" (full ++ (asked_deposit 5 150 ∷ paid 10 50 ∷ moved 374 ∷ [])) 8
-    ∷ ends "and is earned again" (full ++ (asked_deposit 5 150 ∷ paid 10 50 ∷ moved 375 ∷ [])) 0
-    ∷ shows "moved: nothing is held" held (full ++ (moved 365 ∷ [])) 0
-    ∷ shows "moved: nothing is required" required (full ++ (moved 365 ∷ [])) 0
-    ∷ shows "moved: a credit" credit (full ++ (moved 365 ∷ [])) 100
-    ∷ ends "moved twice" (full ++ (moved 365 ∷ moved 800 ∷ [])) 7
-    ∷ ends "paid after it was moved" (full ++ (moved 365 ∷ paid 365 1 ∷ [])) 7
-    ∷ shows "a second deposit, moved" credit (full ++ (moved 365 ∷ asked_deposit 365 50 ∷ paid 365 50 ∷ moved 730 ∷ [])) 150
-    ∷ shows "a second deposit, held" held (full ++ (moved 365 ∷ asked_deposit 365 50 ∷ paid 365 50 ∷ [])) 50
-    ∷ ends "a second deposit has its own year" (full ++ (moved 365 ∷ asked_deposit 365 50 ∷ paid 366 50 ∷ moved 730 ∷ [])) 8
-    ∷ ends "two notices in the year" (full ++ (bill 0 90000 ∷ notice 20 ∷ notice 41 ∷ moved 365 ∷ [])) 0
+    ∷ ends "and it begins again" (full ++ (asked_deposit 5 150 ∷ paid 10 50 ∷ moved 375 ∷ [])) 8
+    ∷ ends "and is earned again" (full ++ (asked_deposit 5 150 ∷ paid 10 50 ∷ moved 376 ∷ [])) 0
+    ∷ shows "moved: nothing is held" held (full ++ (moved 366 ∷ [])) 0
+    ∷ shows "moved: nothing is required" required (full ++ (moved 366 ∷ [])) 0
+    ∷ shows "moved: a credit" credit (full ++ (moved 366 ∷ [])) 100
+    ∷ ends "moved twice" (full ++ (moved 366 ∷ moved 800 ∷ [])) 7
+    ∷ ends "paid after it was moved" (full ++ (moved 366 ∷ paid 366 1 ∷ [])) 7
+    ∷ shows "a second deposit, moved" credit (full ++ (moved 366 ∷ asked_deposit 366 50 ∷ paid 366 50 ∷ moved 731 ∷ [])) 150
+    ∷ shows "a second deposit, held" held (full ++ (moved 366 ∷ asked_deposit 366 50 ∷ paid 366 50 ∷ [])) 50
+    ∷ ends "a second deposit has its own year" (full ++ (moved 366 ∷ asked_deposit 366 50 ∷ paid 367 50 ∷ moved 731 ∷ [])) 8
+    ∷ ends "two notices in the year" (full ++ (bill 0 90000 ∷ notice 20 ∷ notice 41 ∷ moved 366 ∷ [])) 0
     ∷ ends "three notices in the year" (full ++ (bill 0 90000 ∷ notice 20 ∷ notice 41 ∷ notice 62 ∷ moved 384 ∷ [])) 8
     ∷ ends "three notices, one before the year" (full ++ (bill 0 90000 ∷ notice 20 ∷ notice 41 ∷ notice 62 ∷ moved 385 ∷ [])) 0
-    ∷ ends "two notices, one on the day it is moved" (full ++ (bill 0 90000 ∷ notice 41 ∷ notice 365 ∷ moved 365 ∷ [])) 0
+    ∷ ends "two notices, one on the day it is moved" (full ++ (bill 0 90000 ∷ notice 41 ∷ notice 366 ∷ moved 366 ∷ [])) 0
     ∷ ends "three notices, one on the day it is moved" (full ++ (bill 0 90000 ∷ notice 20 ∷ notice 41 ∷ notice 384 ∷ moved 384 ∷ [])) 8
     ∷ ends "one before the year, one on the day it is moved" (full ++ (bill 0 90000 ∷ notice 20 ∷ notice 41 ∷ notice 385 ∷ moved 385 ∷ [])) 0
     ∷ ends "a lapsed notice counts" (full ++ (bill 0 6000 ∷ bill 5 90000 ∷ notice 20 ∷ payment 20 1001 ∷ notice 41 ∷ notice 62 ∷ moved 384 ∷ [])) 8
     ∷ ends "four notices, two before the year" (full ++ (bill 0 90000 ∷ notice 20 ∷ notice 41 ∷ notice 62 ∷ notice 83 ∷ moved 406 ∷ [])) 0
     ∷ ends "a cut in the year" (full ++ d ++ (moved 389 ∷ [])) 8
     ∷ ends "a cut before the year" (full ++ d ++ (moved 390 ∷ [])) 0
-    ∷ ends "a cut on the day it is moved" (full ++ (bill 0 6000 ∷ notice 360 ∷ call 364 ∷ cut_off 365 ∷ moved 365 ∷ [])) 8
-    ∷ ends "the same without the cut" (full ++ (bill 0 6000 ∷ notice 360 ∷ call 364 ∷ moved 365 ∷ [])) 0
+    ∷ ends "a cut on the day it is moved" (full ++ (bill 0 6000 ∷ notice 360 ∷ call 364 ∷ cut_off 366 ∷ moved 366 ∷ [])) 8
+    ∷ ends "the same without the cut" (full ++ (bill 0 6000 ∷ notice 360 ∷ call 364 ∷ moved 366 ∷ [])) 0
     ∷ ends "a cut in the year, and a reconnection" (full ++ d ++ (arrangement 26 2 ∷ reconnection 26 0 ∷ moved 389 ∷ [])) 8
     ∷ ends "both before the year" (full ++ d ++ (arrangement 26 2 ∷ reconnection 26 0 ∷ moved 390 ∷ [])) 0
     ∷ shows "close moves what is held" credit (asked_deposit 0 100 ∷ paid 0 60 ∷ close 0 ∷ []) 60
@@ -380,8 +380,8 @@ payouts =
     ∷ ends "over the credit" (payment 0 100 ∷ payout 0 60 ∷ payout 0 41 ∷ []) 7
     ∷ ends "less what is charged" (bill 0 30 ∷ payment 0 100 ∷ payout 0 71 ∷ []) 7
     ∷ ends "up to what is charged" (bill 0 30 ∷ payment 0 100 ∷ payout 0 70 ∷ []) 0
-    ∷ ends "a deposit moved, paid out" (full ++ (moved 365 ∷ payout 365 100 ∷ [])) 0
-    ∷ ends "over a deposit moved" (full ++ (moved 365 ∷ payout 365 101 ∷ [])) 7
+    ∷ ends "a deposit moved, paid out" (full ++ (moved 366 ∷ payout 366 100 ∷ [])) 0
+    ∷ ends "over a deposit moved" (full ++ (moved 366 ∷ payout 366 101 ∷ [])) 7
     ∷ ends "a deposit held is not paid out" (full ++ (payout 0 1 ∷ [])) 7
     ∷ ends "while owing" (bill 0 100 ∷ payment 0 50 ∷ payout 0 1 ∷ []) 7
     ∷ []
@@ -396,11 +396,11 @@ notices =
     ∷ ends "lapsed by a payment, though arrears are back" (bill 0 6000 ∷ bill 5 6000 ∷ notice 20 ∷ call 22 ∷ payment 22 1001 ∷ cut_off 25 ∷ []) 12
     ∷ ends "not lapsed, 5,000 being left" (bill 0 6000 ∷ bill 5 6000 ∷ notice 20 ∷ call 22 ∷ payment 22 1000 ∷ cut_off 25 ∷ []) 0
     ∷ ends "lapsed, so a new one may follow" (bill 0 6000 ∷ bill 5 6000 ∷ notice 20 ∷ payment 22 1001 ∷ notice 25 ∷ []) 0
-    ∷ ends "lapsed by a deposit that is moved" (full ++ (bill 300 5050 ∷ bill 346 6000 ∷ notice 360 ∷ moved 365 ∷ call 365 ∷ cut_off 366 ∷ [])) 12
-    ∷ ends "the same, nothing moved" (full ++ (bill 300 5050 ∷ bill 346 6000 ∷ notice 360 ∷ call 365 ∷ cut_off 366 ∷ [])) 0
+    ∷ ends "lapsed by a deposit that is moved" (full ++ (bill 300 5050 ∷ bill 347 6000 ∷ notice 360 ∷ moved 366 ∷ call 366 ∷ cut_off 367 ∷ [])) 12
+    ∷ ends "the same, nothing moved" (full ++ (bill 300 5050 ∷ bill 347 6000 ∷ notice 360 ∷ call 366 ∷ cut_off 367 ∷ [])) 0
     ∷ ends "looked at on the day of the payment" (bill 0 6000 ∷ bill 5 6000 ∷ notice 20 ∷ call 24 ∷ payment 25 6000 ∷ cut_off 25 ∷ []) 0
     ∷ ends "other events leave it" (b ++ common 21 ++ (call 22 ∷ cut_off 25 ∷ [])) 0
-    ∷ ends "a deposit moved leaves it" (full ++ (bill 300 6000 ∷ notice 360 ∷ moved 365 ∷ call 365 ∷ cut_off 366 ∷ [])) 0
+    ∷ ends "a deposit moved leaves it" (full ++ (bill 300 6000 ∷ notice 360 ∷ moved 366 ∷ call 366 ∷ cut_off 367 ∷ [])) 0
     ∷ ends "used up by a cut" (d ++ (arrangement 26 2 ∷ reconnection 26 0 ∷ call 27 ∷ cut_off 28 ∷ [])) 12
     ∷ ends "used up, so a new one may follow" (d ++ (arrangement 26 2 ∷ reconnection 26 0 ∷ notice 26 ∷ [])) 0
     ∷ ends "a second cut, by a second notice" (d ++ (arrangement 26 2 ∷ reconnection 26 0 ∷ notice 56 ∷ call 60 ∷ cut_off 61 ∷ [])) 0
@@ -495,7 +495,7 @@ arrangements =
     ∷ ends "payments of its day, posted before it" (bill 0 6000 ∷ payment 20 1000 ∷ arrangement 20 2 ∷ payment 50 2499 ∷ arrangement 50 2 ∷ []) 0
     ∷ ends "a deposit paid is no payment" (bill 0 6000 ∷ arrangement 20 2 ∷ asked_deposit 20 9000 ∷ paid 20 9000 ∷ arrangement 50 2 ∷ []) 0
     ∷ ends "a deposit that is moved is no payment"
-    (asked_deposit 0 3000 ∷ paid 0 3000 ∷ bill 300 6000 ∷ arrangement 340 2 ∷ moved 365 ∷ arrangement 370 2 ∷ []) 0
+    (asked_deposit 0 3000 ∷ paid 0 3000 ∷ bill 300 6000 ∷ arrangement 340 2 ∷ moved 366 ∷ arrangement 370 2 ∷ []) 0
     ∷ ends "returns count without their fee" (bill 0 6000 ∷ arrangement 20 2 ∷ payment 20 4000 ∷ payment 20 3000 ∷ returned 21 1 ∷ arrangement 50 2 ∷ []) 9
     ∷ ends "returns count against it" (bill 0 6000 ∷ arrangement 20 2 ∷ payment 20 4000 ∷ payment 20 2999 ∷ returned 21 1 ∷ arrangement 50 2 ∷ []) 0
     ∷ ends "a payment older than it, returned after it" (bill 0 6000 ∷ payment 0 10 ∷ arrangement 20 2 ∷ returned 20 1 ∷ arrangement 20 2 ∷ []) 0
@@ -549,12 +549,12 @@ limits =
     ∷ ends "payments at the limit: a close, nothing being held" (rich ++ (payment 0 10000000000 ∷ close 0 ∷ [])) 0
     ∷ ends "payments over the limit after closing" (rich ++ (payment 0 10000000000 ∷ close 0 ∷ payment 0 1 ∷ [])) 19
     ∷ ends "payouts do not make room" (rich ++ (payment 0 10000000000 ∷ payout 0 9 ∷ payment 0 1 ∷ [])) 19
-    ∷ ends "a deposit moved over the limit" (full ++ rich ++ (payment 0 9999999901 ∷ moved 365 ∷ [])) 19
-    ∷ ends "a deposit moved up to the limit" (full ++ rich ++ (payment 0 9999999900 ∷ moved 365 ∷ [])) 0
+    ∷ ends "a deposit moved over the limit" (full ++ rich ++ (payment 0 9999999901 ∷ moved 366 ∷ [])) 19
+    ∷ ends "a deposit moved up to the limit" (full ++ rich ++ (payment 0 9999999900 ∷ moved 366 ∷ [])) 0
     ∷ ends "a close over the limit" (full ++ rich ++ (payment 0 9999999901 ∷ close 0 ∷ [])) 19
     ∷ ends "a close up to the limit" (full ++ rich ++ (payment 0 9999999900 ∷ close 0 ∷ [])) 0
-    ∷ ends "deposits moved count in the limit" (full ++ rich ++ (moved 365 ∷ payment 365 9999999901 ∷ [])) 19
-    ∷ ends "up to the limit with a deposit moved" (full ++ rich ++ (moved 365 ∷ payment 365 9999999900 ∷ [])) 0
+    ∷ ends "deposits moved count in the limit" (full ++ rich ++ (moved 366 ∷ payment 366 9999999901 ∷ [])) 19
+    ∷ ends "up to the limit with a deposit moved" (full ++ rich ++ (moved 366 ∷ payment 366 9999999900 ∷ [])) 0
     ∷ ends "a deposit paid has no limit of its own" (rich ++ (payment 0 10000000000 ∷ asked_deposit 0 9 ∷ paid 0 9 ∷ [])) 0
     ∷ []
 

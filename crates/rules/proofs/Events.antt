@@ -185,7 +185,7 @@ bills s class usage n = gives s (result_unwrap_or (bill_of class usage) 0) n
 abbrev pub unbilled : String → ℕ → ℕ → ℕ → Case
 unbilled s class usage n = gives s (number_of (bill_of class usage)) n
 
-abbrev same : List ℕ → List ℕ → Bool
+abbrev pub same : List ℕ → List ℕ → Bool
 same [] [] = true
 same [] (y ∷ ys) = false
 same (x ∷ xs) [] = false

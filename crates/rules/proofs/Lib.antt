@@ -12,6 +12,7 @@ pub mod Bounds
 pub mod Cut
 pub mod Events
 pub mod Paper
+pub mod Dates
 pub mod Tickets
 pub mod Edges
 pub mod Orders

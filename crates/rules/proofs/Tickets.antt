@@ -1,7 +1,8 @@
 -- Document 02's own examples, ticket by ticket.
 use mathlib.Core.List.{List, [], ◌∷◌, ◌++◌}
 use Rattle.rules.specs.Tariff.{cents_of}
-use Rattle.rules.proofs.Events.{bill, payment, payment_at, returned, returned_at, certificate, times, owed, receipt, Case, ends, shows, bills}
+use Rattle.rules.proofs.Events.{bill, payment, payment_at, returned, returned_at, certificate, moved, times, owed, receipt, Case, ends, shows, bills}
+use Rattle.rules.proofs.Dates.{full_from}
 
 abbrev pub tickets : List Case
 tickets =
@@ -16,4 +17,9 @@ tickets =
     ∷ ends "3: an option over 4, of a return" (payment 0 9 ∷ returned_at 5 0 1 ∷ []) 3
     ∷ ends "6: 90 days on day 9,497" (certificate 9_497 90 ∷ []) 0
     ∷ ends "6: more than 90 days on day 9,497" (certificate 9_497 91 ∷ []) 3
+    ∷ ends "7: full on 29 February 2024, the day before 1 March 2025" (full_from 8_825 ++ (moved 9_190 ∷ [])) 8
+    ∷ ends "7: full on 29 February 2024, from 1 March 2025" (full_from 8_825 ++ (moved 9_191 ∷ [])) 0
+    ∷ ends "7: full on 1 March 2023, the day before 1 March 2024" (full_from 8_460 ++ (moved 8_825 ∷ [])) 8
+    ∷ ends "7: full on 1 March 2023, from 1 March 2024" (full_from 8_460 ++ (moved 8_826 ∷ [])) 0
+    ∷ ends "7: a date after 31 December 2199" (full_from 72_684 ++ (moved 73_048 ∷ [])) 8
     ∷ []

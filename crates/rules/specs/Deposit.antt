@@ -1,8 +1,9 @@
 -- The deposit: asked, paid, moved to the credits.
 use Rattle.std.specs.Prelude.{ℕ, ◌+◌, ◌-◌, Bool, cond, not, ◌&&◌, ◌||◌, [], ◌∷◌, leb, ltb, eqb}
 use Rattle.std.specs.List.{list_any}
-use Rattle.rules.specs.Limits.{year, most_notices}
+use Rattle.rules.specs.Limits.{conduct_days, most_notices}
 use Rattle.rules.specs.declared.Event.{Event}
+use Rattle.rules.specs.Dates.{year_later, has_come}
 use Rattle.rules.specs.Kinds.{deposit_asked, deposit_paid, deposit_moved, final_notice, disconnection, closing}
 use Rattle.rules.specs.History.{History, is, within, count, since, total, newest}
 
@@ -33,13 +34,13 @@ full_on [] = 0
 full_on (e ∷ h) = cond (full h) (full_on h) e.day
 
 -- e's day lies in t − 364 to t
-abbrev pub in_year : ℕ → Event → Bool
-in_year t e = within e.day (e.day + (year - 1)) t
+abbrev pub recent : ℕ → Event → Bool
+recent t e = within e.day (e.day + (conduct_days - 1)) t
 
--- earned on t: full for 365 days, at most two notices in t − 364 to t, and no disconnection in those days
+-- earned on t: the same date one year after it became full has come, at most two notices in t − 364 to t, and no disconnection in those days
 abbrev pub earned : History → ℕ → Bool
 earned h t =
     full h
-    && leb (full_on h + year) t
-    && leb (count (λ e. is final_notice e && in_year t e) h) most_notices
-    && not (list_any (λ e. is disconnection e && in_year t e) h)
+    && has_come (year_later (full_on h)) t
+    && leb (count (λ e. is final_notice e && recent t e) h) most_notices
+    && not (list_any (λ e. is disconnection e && recent t e) h)

@@ -3,6 +3,7 @@ pub mod Kinds
 pub mod History
 pub mod Fees
 pub mod Receipts
+pub mod Dates
 pub mod Deposit
 pub mod Money
 pub mod Service

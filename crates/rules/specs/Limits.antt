@@ -60,9 +60,9 @@ calendar_words = 32
 abbrev pub call_days : ℕ
 call_days = 3
 
--- a deposit is earned after so many days full; its notices and disconnections are looked for as far back
-abbrev pub year : ℕ
-year = 365
+-- a deposit's notices and disconnections are looked for in so many days, in a leap year too
+abbrev pub conduct_days : ℕ
+conduct_days = 365
 
 -- the most notices in those days
 abbrev pub most_notices : ℕ

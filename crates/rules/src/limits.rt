@@ -41,8 +41,8 @@ pub const CALENDAR_WORDS: usize = 32;
 // A call counts on so many days after its own.
 pub const CALL_DAYS: u64 = 3;
 
-// A deposit is earned after so many days full; its notices and disconnections are looked for as far back.
-pub const YEAR: u64 = 365;
+// A deposit's notices and disconnections are looked for in so many days, in a leap year too.
+pub const CONDUCT_DAYS: u64 = 365;
 
 // The longest certificate, in days, and the longest since they are shorter.
 pub const CERTIFICATE_DAYS: u64 = 180;
