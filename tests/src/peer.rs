@@ -8,6 +8,7 @@ pub mod arrangement;
 pub mod book;
 pub mod calendar;
 pub mod collection;
+pub mod dates;
 pub mod days;
 pub mod deposit;
 pub mod medical;

@@ -1,12 +1,10 @@
 //! The deposit: held, required, full, earned.
+use super::dates::year_later;
 use super::kind::*;
 use tools::event::Event;
 
-/// A deposit is earned when it was full for so many days.
-pub const FULL_DAYS: i64 = 365;
-
 /// The events after the last deposit moved: what came before no longer concerns the deposit.
-fn since_moved(accepted: &[Event]) -> &[Event] {
+pub fn since_moved(accepted: &[Event]) -> &[Event] {
     let moved = |e: &Event| e.kind == DEPOSIT_MOVED || e.kind == CLOSE;
     let first = accepted.iter().rposition(moved).map_or(0, |at| at + 1);
     &accepted[first..]
@@ -37,7 +35,7 @@ pub fn full_since(accepted: &[Event]) -> Option<u32> {
 }
 
 /// How many events of a kind lie in the 365 days that end with a day.
-pub fn in_a_year(accepted: &[Event], kind: u8, day: u32) -> usize {
+pub fn in_365_days(accepted: &[Event], kind: u8, day: u32) -> usize {
     let first = i64::from(day) - 364;
     let of_kind = accepted.iter().filter(|e| e.kind == kind);
     of_kind
@@ -45,8 +43,16 @@ pub fn in_a_year(accepted: &[Event], kind: u8, day: u32) -> usize {
         .count()
 }
 
+/// Whether the deposit is full and the same date has come one year later. Where that lies after the last day, it never does.
+pub fn full_for_a_year(accepted: &[Event], day: u32) -> bool {
+    match full_since(accepted).and_then(year_later) {
+        Some(from) => from <= day,
+        None => false,
+    }
+}
+
 pub fn earned(accepted: &[Event], day: u32) -> bool {
-    full_since(accepted).is_some_and(|full| i64::from(full) + FULL_DAYS <= i64::from(day))
-        && in_a_year(accepted, NOTICE, day) <= 2
-        && in_a_year(accepted, CUT, day) == 0
+    full_for_a_year(accepted, day)
+        && in_365_days(accepted, NOTICE, day) <= 2
+        && in_365_days(accepted, CUT, day) == 0
 }

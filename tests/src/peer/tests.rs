@@ -1,6 +1,7 @@
 //! The peer against the worked examples of document 01: the marked histories, an input for each row, the printed text.
 mod calendar;
 mod certificates;
+mod dates;
 
 use super::*;
 use crate::make::{self, *};
@@ -223,8 +224,8 @@ fn rows_six_and_seven() {
 fn row_eight_and_the_year() {
     let full = [deposit_asked(9, 50), deposit_paid(10, 50)];
     let moved = |day| last_answer(&[&full[..], &[deposit_moved(day)]].concat());
-    assert_eq!(moved(374), 8);
-    assert_eq!(moved(375), 0);
+    // Of 11 January 2000: that of 2001 is 366 days later.
+    assert_eq!([374, 375, 376].map(moved), [8, 8, 0]);
     let mut notices = vec![bill(0, 6_000), deposit_asked(0, 50), deposit_paid(0, 50)];
     notices.extend([notice(20), notice(41), notice(62)]);
     let third = |day| last_answer(&[&notices[..], &[deposit_moved(day)]].concat());
@@ -454,7 +455,7 @@ fn the_deposit_required_is_the_last_asked_until_it_is_moved() {
         deposit_asked(0, 70),
         deposit_asked(1, 50),
         deposit_paid(2, 50),
-        deposit_moved(367),
+        deposit_moved(368),
     ];
     assert_eq!(
         [1, 2, 3, 4].map(|count| asked(&events[..count])),
