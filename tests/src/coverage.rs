@@ -1,5 +1,5 @@
 //! What the histories reached: which answers to which kinds, and both sides of the bounds.
-use crate::edges::{Case, Edge, CALENDAR_EDGES, EDGES};
+use crate::edges::{Case, Edge, CALENDAR_EDGES, DEPOSIT_EDGES, EDGES};
 use crate::peer::kind::*;
 use crate::peer::money::Money;
 use crate::peer::Posted;
@@ -32,16 +32,16 @@ pub fn concerns(number: u8, kind: u8) -> bool {
 struct Reached {
     /// How often a number, 0 for accepted, was the answer to a kind.
     answers: BTreeMap<(u8, u8), usize>,
-    edges: &'static [Edge],
+    edges: Vec<Edge>,
     /// How often each of the bounds was met, in the order of their list.
     met: Vec<usize>,
 }
 
 impl Reached {
-    fn of(edges: &'static [Edge]) -> Reached {
+    fn of(edges: &[Edge]) -> Reached {
         Reached {
             answers: BTreeMap::new(),
-            edges,
+            edges: edges.to_vec(),
             met: vec![0; edges.len()],
         }
     }
@@ -58,7 +58,7 @@ impl Reached {
                 event,
                 answer,
             };
-            for (count, (_, met)) in self.met.iter_mut().zip(self.edges) {
+            for (count, (_, met)) in self.met.iter_mut().zip(&self.edges) {
                 *count += usize::from(met(&case));
             }
             before += usize::from(answer == 0);
@@ -85,7 +85,7 @@ impl Reached {
     }
 
     fn never_met(&self) -> Vec<String> {
-        let edges = self.met.iter().zip(self.edges);
+        let edges = self.met.iter().zip(&self.edges);
         let never = edges.filter(|(times, _)| **times == 0);
         never.map(|(_, (name, _))| String::from(*name)).collect()
     }
@@ -107,7 +107,7 @@ impl Reached {
     }
 
     fn print_bounds(&self) {
-        for (times, (name, _)) in self.met.iter().zip(self.edges) {
+        for (times, (name, _)) in self.met.iter().zip(&self.edges) {
             println!("  {:70} {:>11}", name, show::count(*times));
         }
     }
@@ -134,7 +134,7 @@ pub struct Coverage {
 impl Default for Coverage {
     fn default() -> Coverage {
         Coverage {
-            without_calendar: Reached::of(&EDGES),
+            without_calendar: Reached::of(&[&EDGES[..], &DEPOSIT_EDGES].concat()),
             with_calendar: Reached::of(&CALENDAR_EDGES),
             books: BTreeMap::new(),
         }
@@ -255,7 +255,8 @@ mod tests {
     #[test]
     fn what_is_not_reached_is_missing() {
         let mut coverage = Coverage::default();
-        let (edges, of_calendars) = (EDGES.len(), CALENDAR_EDGES.len());
+        let edges = EDGES.len() + DEPOSIT_EDGES.len();
+        let of_calendars = CALENDAR_EDGES.len();
         let with = [16, CALENDAR_PAIRS, of_calendars];
         let nothing = [&[16, 19, 2, PAIRS, edges][..], &with].concat();
         assert_eq!(missing(&coverage), nothing);

@@ -1,10 +1,11 @@
 //! The bounds of the rules, each as a question about an event and its answer.
 mod calendar;
+mod deposit;
 
 use crate::peer::arrangement::{stands, Arrangement};
 use crate::peer::calendar::Calendar;
 use crate::peer::collection::{called, live_notice};
-use crate::peer::deposit::{full_since, held, in_a_year, required};
+use crate::peer::deposit::held;
 use crate::peer::kind::*;
 use crate::peer::money::{charge, received, received_in_all, Money};
 use crate::peer::receipts::{payments, returnable, KNOWN, TILLS};
@@ -13,6 +14,7 @@ use crate::peer::{medical, receipts, LAST_DAY};
 use tools::event::Event;
 
 pub use calendar::CALENDAR_EDGES;
+pub use deposit::DEPOSIT_EDGES;
 
 /// An event with what was accepted before it and with its answer.
 pub struct Case<'a> {
@@ -27,7 +29,7 @@ pub struct Case<'a> {
 pub type Edge = (&'static str, fn(&Case) -> bool);
 
 /// A name for each bound and what meets it, of events posted to an account without a calendar.
-pub const EDGES: [Edge; 96] = [
+pub const EDGES: [Edge; 80] = [
     ("final notice at arrears of 5,000", |c| {
         c.is(NOTICE, 0) && c.arrears() == 5_000
     }),
@@ -172,54 +174,6 @@ pub const EDGES: [Edge; 96] = [
         "cut on the day after a certificate's over 90 days, from 9,497 on",
         |c| c.is(CUT, 0) && c.ends(CERTIFICATE, 0) && c.long_since_2026(),
     ),
-    ("deposit moved 365 days after it was full", |c| {
-        c.is(DEPOSIT_MOVED, 0) && c.full_for(365)
-    }),
-    ("deposit refused after 364 days", |c| {
-        c.is(DEPOSIT_MOVED, 8) && c.full_for(364)
-    }),
-    ("deposit moved a second time", |c| {
-        c.is(DEPOSIT_MOVED, 0) && c.any(DEPOSIT_MOVED)
-    }),
-    ("deposit moved after two notices in the year", |c| {
-        c.is(DEPOSIT_MOVED, 0) && c.year(NOTICE) == 2
-    }),
-    ("deposit refused for three notices in the year", |c| {
-        c.is(DEPOSIT_MOVED, 8) && c.long_full() && c.year(NOTICE) == 3
-    }),
-    ("deposit moved with a third notice 365 days before", |c| {
-        c.is(DEPOSIT_MOVED, 0) && c.year(NOTICE) == 2 && c.some_ago(NOTICE, 365)
-    }),
-    ("deposit moved on the day of a second notice", |c| {
-        c.is(DEPOSIT_MOVED, 0) && c.year(NOTICE) == 2 && c.ago(NOTICE, 0)
-    }),
-    ("deposit refused on the day of a third notice", |c| {
-        c.is(DEPOSIT_MOVED, 8) && c.long_full() && c.only_notices(3) && c.ago(NOTICE, 0)
-    }),
-    ("deposit refused on the day of a cut", |c| {
-        c.is(DEPOSIT_MOVED, 8) && c.long_full() && c.year(NOTICE) <= 2 && c.ago(CUT, 0)
-    }),
-    ("deposit refused for a cut 364 days before", |c| {
-        c.is(DEPOSIT_MOVED, 8) && c.long_full() && c.ago(CUT, 364)
-    }),
-    ("deposit moved with a cut 365 days before", |c| {
-        c.is(DEPOSIT_MOVED, 0) && c.ago(CUT, 365)
-    }),
-    ("deposit paid to the required sum", |c| {
-        c.is(DEPOSIT_PAID, 0) && c.rest() == c.amount()
-    }),
-    ("deposit paid refused for one cent", |c| {
-        c.is(DEPOSIT_PAID, 7) && required(c.accepted) > 0 && c.rest() + 1 == c.amount()
-    }),
-    ("deposit asked refused at the held", |c| {
-        c.is(DEPOSIT_ASKED, 7) && held(c.accepted) == c.amount()
-    }),
-    ("deposit asked one cent over the held", |c| {
-        c.is(DEPOSIT_ASKED, 0) && held(c.accepted) > 0 && held(c.accepted) + 1 == c.amount()
-    }),
-    ("deposit asked under the required sum", |c| {
-        c.is(DEPOSIT_ASKED, 0) && c.amount() < required(c.accepted)
-    }),
     ("payout of the whole credit", |c| {
         c.is(PAYOUT, 0) && c.amount() == -c.money.owed()
     }),
@@ -499,28 +453,6 @@ impl Case<'_> {
     fn outlived(&self, kind: u8) -> bool {
         let end = self.last(kind).map(|e| u64::from(e.day) + e.amount);
         end.is_some_and(|end| end <= u64::from(self.event.day))
-    }
-
-    fn full_for(&self, days: u32) -> bool {
-        full_since(self.accepted).is_some_and(|full| self.event.day - full == days)
-    }
-
-    fn long_full(&self) -> bool {
-        full_since(self.accepted).is_some_and(|full| self.event.day - full >= 365)
-    }
-
-    fn year(&self, kind: u8) -> usize {
-        in_a_year(self.accepted, kind, self.event.day)
-    }
-
-    /// Whether there were so many notices in the year, and no cut that would bar a move too.
-    fn only_notices(&self, count: usize) -> bool {
-        self.year(NOTICE) == count && self.year(CUT) == 0
-    }
-
-    /// What is required and not yet held.
-    fn rest(&self) -> i64 {
-        required(self.accepted) - held(self.accepted)
     }
 
     /// How many payments of its till are newer than the one returned, if the till has it.

@@ -237,7 +237,7 @@ fn edges(event: &Event) -> Vec<u32> {
     let days = event.amount as u32;
     let steps: Vec<u32> = match event.kind {
         BILL | FEE | RETURNED => vec![19, 20],
-        DEPOSIT_PAID => vec![364, 365],
+        DEPOSIT_PAID => vec![364, 365, 366],
         CERTIFICATE | APPROVAL => vec![days - 1, days],
         ARRANGEMENT => (1..=u32::from(event.option))
             .flat_map(|part| [30 * part - 1, 30 * part])

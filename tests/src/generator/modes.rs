@@ -13,13 +13,14 @@ pub struct Mode {
     pub write: fn(&mut Writer),
 }
 
-pub const MODES: [Mode; 21] = [
+pub const MODES: [Mode; 22] = [
     mode("seventy months of bills", mixed::months),
     mode("returned checks", money::returned_checks),
     mode("notices and disconnections", collection::disconnections),
     mode("notices that lapse", collection::lapses),
     mode("notices that a cut used up", collection::used_up),
     mode("deposits and their return", deposit::deposits),
+    mode("deposits a year by the date", deposit::a_year),
     mode("payment arrangements", collection::arrangements),
     mode("arrangements of a few cents", collection::small_debts),
     mode("certificates and approvals", collection::medical),

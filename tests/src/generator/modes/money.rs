@@ -1,5 +1,5 @@
 //! Modes about sums, open items and receipts.
-use super::deposit::fill_deposit;
+use super::deposit::{earned_from, fill_deposit};
 use crate::generator::Writer;
 use crate::make::*;
 use crate::peer::deposit;
@@ -105,7 +105,7 @@ pub fn totals(w: &mut Writer) {
         w.post(notice(w.later(20)));
     }
     if w.random.once_in(2) {
-        w.post(deposit_moved(w.later(365)));
+        w.post(deposit_moved(earned_from(w.today())));
     }
     let steps = w.random.between(5, 25);
     let kinds = [
