@@ -12,6 +12,13 @@ const ENOUGH_ARREARS: u64 = 5_000;
 const CERTIFICATE_DAYS: u64 = 180;
 const SHORT_CERTIFICATE_DAYS: u64 = 90;
 const SHORT_CERTIFICATES_FROM: u32 = 9_497;
+/// Days from 1 March of a leap year on: in four years, and in the first three of them. The fourth ends with 29 February.
+const FOUR_YEARS: u32 = 1_461;
+const THREE_YEARS: u32 = 1_095;
+/// So many days of such four years have passed on day 0.
+const PASSED_ON_DAY_0: u32 = 1_401;
+/// 1 March 2100, before which there was no 29 February.
+const MARCH_2100: u32 = 36_584;
 const OPEN: usize = 64;
 const TILLS: usize = 5;
 const KNOWN: u64 = 16;
@@ -359,7 +366,7 @@ impl Account {
             return 7;
         }
         let in_year = |next: u32| next != 0 && e.day < next + 364;
-        if self.full_on + 365 > e.day || in_year(self.notices[2]) || in_year(self.cut) {
+        if e.day < year_later(self.full_on) || in_year(self.notices[2]) || in_year(self.cut) {
             return 8;
         }
         self.move_deposit()
@@ -527,6 +534,14 @@ impl Account {
     }
 }
 
+/// The same date one year later, and of 29 February 1 March. The fourth year has a day more, but for that to 1 March 2100; that
+/// to 1 March 2200 has none either, and is past the last day with one or without.
+fn year_later(day: u32) -> u32 {
+    let of_four_years = (day + PASSED_ON_DAY_0 + u32::from(day >= MARCH_2100)) % FOUR_YEARS;
+    let to_2100 = day < MARCH_2100 && day + 365 >= MARCH_2100;
+    day + 365 + u32::from(of_four_years >= THREE_YEARS && !to_2100)
+}
+
 const HEADER: &[u8] = b"account owed held open service refused\n";
 
 /// The text, written from the front of a buffer that is long enough.
@@ -656,7 +671,7 @@ mod tests {
     use super::*;
     use ::tests::books;
     use std::collections::BTreeSet;
-    use tools::core;
+    use tools::core::{self, Answer};
     use tools::event::Event;
 
     /// What is answered to the events of an account, and what is owed after each.
@@ -699,6 +714,29 @@ mod tests {
         for (account, events) in list.iter().enumerate() {
             let by_core = core::history(&book, account).unwrap();
             assert_eq!(replies(&book, account), by_core, "{events:?}");
+        }
+    }
+
+    /// Full on each day that there is, and moved on the days about a year later.
+    #[test]
+    fn a_year_is_as_long_as_the_core_s() {
+        for full in 0..=LAST_DAY {
+            let (mut kept, mut by_core) = (Account::fresh(), core::Account::fresh());
+            let moves = (364..=366).map(|later| (7, full + later, 0));
+            for (kind, day, amount) in [(5, full, 900), (6, full, 900)].into_iter().chain(moves) {
+                let number = kept.post(Record {
+                    kind,
+                    option: 0,
+                    day,
+                    amount,
+                });
+                let expected = match by_core.post(Event::of(kind, day, amount)) {
+                    Answer::Accepted(_) => 0,
+                    Answer::Refused(number) => number,
+                };
+                assert_eq!(number, expected, "full {full}, kind {kind} on {day}");
+            }
+            assert_eq!(kept.owed(), by_core.owed());
         }
     }
 
