@@ -37,11 +37,11 @@ extern "C" {
 #endif
 
 /*
- * The version of this header, major * 10000 + minor * 100 + patch: 1.5.0. The
+ * The version of this header, major * 10000 + minor * 100 + patch: 1.6.0. The
  * library's own is told by hollupaq_version; where they differ, the header is
  * not of this library.
  */
-#define HOLLUPAQ_VERSION 10500
+#define HOLLUPAQ_VERSION 10600
 
 uint64_t hollupaq_version(void);
 
@@ -105,7 +105,7 @@ enum {
     HOLLUPAQ_FEE = 4,           /* option: the number of the fee, 1 to 3 */
     HOLLUPAQ_DEPOSIT_ASKED = 5, /* amount in cents */
     HOLLUPAQ_DEPOSIT_PAID = 6,  /* amount in cents */
-    HOLLUPAQ_DEPOSIT_MOVED = 7,
+    HOLLUPAQ_DEPOSIT_MOVED = 7, /* of a deposit that is full and earned */
     HOLLUPAQ_PAYOUT = 8,        /* amount in cents */
     HOLLUPAQ_CERTIFICATE = 9,   /* amount: its days, 1 to 180, or from day 9497
                                    (1 January 2026) on 1 to 90 */
@@ -225,7 +225,7 @@ uint64_t hollupaq_book_write(const uint32_t *counts, size_t counts_len,
  * which events are accepted: an account is made of those that its library
  * accepts.
  */
-#define HOLLUPAQ_LAYOUT 1000004
+#define HOLLUPAQ_LAYOUT 1000005
 
 /*
  * An account is HOLLUPAQ_WORDS words in the caller's memory,
@@ -308,6 +308,11 @@ uint8_t hollupaq_ok(const uint64_t *account, size_t words);
  *
  * Each till counts its own receipts from 1. A returned payment names the till
  * and the receipt, which has to be among the newest 16 of that till.
+ *
+ * A deposit is earned from the same date one year after it became full, 1 March
+ * for 29 February, with at most two final notices and no disconnection in the
+ * last 365 days. A date after 31 December 2199 never comes; closing moves the
+ * deposit, earned or not.
  */
 uint64_t hollupaq_post(uint64_t *account, size_t words,
                        uint8_t kind, uint8_t option, uint32_t day,

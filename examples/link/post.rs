@@ -36,7 +36,7 @@ extern "C" {
 }
 
 // The version of the library that this is written for, as include/hollupaq.h has it.
-const VERSION: u64 = 10_500;
+const VERSION: u64 = 10_600;
 // An account takes so many words.
 const WORDS: usize = 274;
 // An answer from here on is an acceptance, and what is above it the receipt of a payment.

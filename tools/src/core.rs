@@ -22,7 +22,7 @@ extern "C" {
 }
 
 /// The version that these declarations are of, as include/hollupaq.h has it.
-pub const VERSION: u64 = 10_500;
+pub const VERSION: u64 = 10_600;
 
 /// The longest header line of a report, and the longest line of an account.
 const REPORT_HEADER: usize = 39;

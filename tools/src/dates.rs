@@ -101,6 +101,21 @@ mod tests {
     }
 
     #[test]
+    fn months_begin_on_their_days() {
+        let common = [
+            8_401, 8_432, 8_460, 8_491, 8_521, 8_552, 8_582, 8_613, 8_644, 8_674, 8_705, 8_735,
+        ];
+        let leap = [
+            8_766, 8_797, 8_826, 8_857, 8_887, 8_918, 8_948, 8_979, 9_010, 9_040, 9_071, 9_101,
+        ];
+        for (year, firsts) in [(2023, common), (2024, leap)] {
+            for (month, first) in (1..).zip(firsts) {
+                assert_eq!(date(first), Some(format!("{year}-{month:02}-01")));
+            }
+        }
+    }
+
+    #[test]
     fn every_date_leads_back_to_its_day() {
         for day in 0..=LAST_DAY {
             assert_eq!(day_of(&date(day).unwrap()), Some(day));

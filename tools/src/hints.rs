@@ -2,8 +2,9 @@
 //! That an event is refused, and by which number, is the core's to say; a hint only points at what to look for.
 //! Where an account has a calendar, a line beside a disconnection names the working days that its notice waited.
 //!
-//! What lasts to which day, and what is in arrears, is asked of the core. The days and counts that can't be asked have a
-//! name each, so that a test holds them against the core at all their ends (tools/tests/hints.rs).
+//! What lasts to which day, from which day on a deposit is earned, and what is in arrears, is asked of the core. The days and
+//! counts that can't be asked have a name each, so that a test holds them against the core at all their ends
+//! (tools/tests/hints.rs).
 use crate::calendar;
 use crate::core::{Account, Answer, Calendar};
 use crate::dates::{date, day, LAST_DAY};
@@ -13,6 +14,8 @@ use std::fmt;
 
 const PAYMENT: u8 = 2;
 const RETURNED_PAYMENT: u8 = 3;
+const DEPOSIT_PAID: u8 = 6;
+const DEPOSIT_MOVED: u8 = 7;
 const CERTIFICATE: u8 = 9;
 const ARRANGEMENT: u8 = 11;
 const FINAL_NOTICE: u8 = 12;
@@ -27,10 +30,12 @@ pub const NOTICE_LASTS: u32 = 20;
 pub const RETURNABLE: u64 = 16;
 /// A charge is in arrears so many days after its own.
 pub const IN_ARREARS_AFTER: u32 = 20;
-/// A deposit is earned when it was full for so many days, and looks back on as many.
-pub const DEPOSIT_DAYS: u32 = 365;
+/// A deposit looks back on so many days of final notices and disconnections, that of its move among them.
+const CONDUCT_DAYS: u32 = 365;
 /// So many final notices in those days are not too many.
 pub const DEPOSIT_NOTICES: usize = 2;
+/// The number that refuses a move of a deposit that is not earned.
+const NOT_EARNED: u8 = 8;
 /// So many days a certificate has at most.
 pub const CERTIFICATE_DAYS: u64 = 180;
 /// Certificates of this day and later, 1 January 2026, are shorter.
@@ -75,14 +80,9 @@ pub fn arrears_days(t: u32) -> Option<Days> {
     Days::before(t, IN_ARREARS_AFTER, t)
 }
 
-/// A deposit that is moved on day t has to become full on one of these days.
-pub fn full_days(t: u32) -> Option<Days> {
-    Days::before(t, DEPOSIT_DAYS, t)
-}
-
 /// Final notices and disconnections from this day on speak against moving a deposit on day t.
 pub fn conduct_from(t: u32) -> u32 {
-    t.saturating_sub(DEPOSIT_DAYS - 1)
+    t.saturating_sub(CONDUCT_DAYS - 1)
 }
 
 /// An account before an event.
@@ -117,6 +117,11 @@ impl Before {
         &self.account
     }
 
+    /// The day of the newest event, 0 where there is none.
+    pub fn newest_day(&self) -> u32 {
+        self.accepted.last().map_or(0, |event| event.day)
+    }
+
     /// The newest event of a kind.
     fn newest(&self, kind: u8) -> Option<&Event> {
         self.accepted.iter().rev().find(|event| event.kind == kind)
@@ -127,6 +132,14 @@ impl Before {
         (t..=LAST_DAY)
             .take_while(|&day| ask(&self.account, day) == Ok(true))
             .last()
+    }
+
+    /// The first day from t on for which the core does not say that the full deposit is not earned, where nothing else comes.
+    /// A year has at most 366 days, and no final notice or disconnection bars for longer: the day is found within so many, or
+    /// fewer are left and there is none.
+    pub fn earned_from(&self, t: u32) -> Option<u32> {
+        let moved = |day| self.account.would_answer(Event::of(DEPOSIT_MOVED, day, 0));
+        (t..=LAST_DAY).find(|&day| moved(day) != Answer::Refused(NOT_EARNED))
     }
 }
 
@@ -146,7 +159,7 @@ pub fn hint(number: u8, event: &Event, before: &Before) -> Option<String> {
         2 => last_event(before),
         3 if event.kind == CERTIFICATE => certificate_days(event),
         6 => Some(receipt(event.option, event.amount, before)),
-        8 => Some(deposit(t)),
+        NOT_EARNED => deposit(t, before),
         9 => arrangement_refused(t, before),
         10 | 16 => arrears(t, before),
         11 => live_notice(t, before),
@@ -199,15 +212,39 @@ fn receipt(till: u8, receipt: u64, before: &Before) -> String {
     }
 }
 
-fn deposit(t: u32) -> String {
-    let full = match full_days(t) {
-        Some(days) => format!("since {} at the latest", day(days.last)),
-        None => format!("for {DEPOSIT_DAYS} days"),
+fn deposit(t: u32, before: &Before) -> Option<String> {
+    let full = before.newest(DEPOSIT_PAID)?;
+    let told = format!(
+        "it has been full since {}{}",
+        day(full.day),
+        conduct(t, before)
+    );
+    let Some(earned) = before.earned_from(t) else {
+        let last = day(LAST_DAY);
+        return Some(format!(
+            "{told}; up to {last}, the last, it is not earned by waiting, but closing the account moves it"
+        ));
     };
-    let from = day(conduct_from(t));
-    format!(
-        "it has to be full {full}, with at most {DEPOSIT_NOTICES} final notices and no disconnection from {from} on"
-    )
+    let (earned, from) = (day(earned), day(conduct_from(earned)));
+    Some(format!(
+        "{told}; it is earned from {earned} on, with at most {DEPOSIT_NOTICES} final notices and no disconnection from {from} on"
+    ))
+}
+
+/// The final notices and disconnections that bar a move of the deposit on day t; nothing where they do not.
+fn conduct(t: u32, before: &Before) -> String {
+    let from = conduct_from(t);
+    let since = |kind| {
+        let events = before.accepted.iter();
+        events.filter(|e| e.kind == kind && e.day >= from).count()
+    };
+    let (notices, cuts) = (since(FINAL_NOTICE), since(DISCONNECTION));
+    if notices <= DEPOSIT_NOTICES && cuts == 0 {
+        return String::new();
+    }
+    let notices = counted(notices as u64, "final notice");
+    let cuts = counted(cuts as u64, "disconnection");
+    format!(", but with {notices} and {cuts} from {} on", day(from))
 }
 
 fn arrears(t: u32, before: &Before) -> Option<String> {
@@ -490,16 +527,39 @@ mod tests {
         );
     }
 
+    /// A deposit that is full since a day, and what is told of it on another, with other events before.
+    fn deposit_told(full: u32, others: &[Event], t: u32) -> String {
+        let mut events = vec![event(5, full, 900), event(DEPOSIT_PAID, full, 900)];
+        events.extend(others);
+        events.sort_by_key(|event| event.day);
+        hint(NOT_EARNED, &event(DEPOSIT_MOVED, t, 0), &before(&events)).unwrap()
+    }
+
     #[test]
-    fn a_deposit_shows_since_when_it_has_to_be_full() {
-        let moved = |day| hint(8, &event(7, day, 0), &Before::default()).unwrap();
+    fn a_deposit_shows_from_which_day_on_it_is_earned() {
+        let told =
+            "it has been full since day 8825 (2024-02-29); it is earned from day 9191 (2025-03-01) on, \
+            with at most 2 final notices and no disconnection from day 8827 (2024-03-02) on";
+        for t in [8_825, 9_190] {
+            assert_eq!(deposit_told(8_825, &[], t), told);
+        }
         assert_eq!(
-            moved(400),
-            "it has to be full since day 35 (2000-02-05) at the latest, \
-             with at most 2 final notices and no disconnection from day 36 (2000-02-06) on"
+            deposit_told(72_684, &[], 73_048),
+            "it has been full since day 72684 (2199-01-01); up to day 73048 (2199-12-31), the last, it is not earned by waiting, \
+            but closing the account moves it"
         );
-        assert!(moved(364).starts_with("it has to be full for 365 days, with"));
-        assert!(moved(364).ends_with("from day 0 (2000-01-01) on"));
+        let none = hint(NOT_EARNED, &event(DEPOSIT_MOVED, 5, 0), &Before::default());
+        assert_eq!(none, None);
+    }
+
+    #[test]
+    fn a_deposit_shows_what_is_in_its_way() {
+        let cut = noticed(&[event(CALL, 22, 0), event(DISCONNECTION, 25, 0)]);
+        assert_eq!(
+            deposit_told(0, &cut, 389),
+            "it has been full since day 0 (2000-01-01), but with no final notices and 1 disconnection from day 25 (2000-01-26) on; \
+            it is earned from day 390 (2001-01-25) on, with at most 2 final notices and no disconnection from day 26 (2000-01-27) on"
+        );
     }
 
     #[test]
@@ -567,7 +627,7 @@ mod tests {
 
     #[test]
     fn no_days_lie_before_the_first_or_past_the_event() {
-        let days = [notice_days, call_days, arrears_days, full_days];
+        let days = [notice_days, call_days, arrears_days];
         for t in [0, 1, 4, 5, 19, 20, 364, 365, 73_048, u32::MAX] {
             for days in days.iter().filter_map(|days| days(t)) {
                 assert!(days.first <= days.last && days.last <= t, "{days:?} of {t}");

@@ -228,7 +228,7 @@ mod tests {
     #[test]
     fn a_deposit_that_is_moved_is_a_credit() {
         let deposit = "0 deposit-asked 900; 0 deposit-paid 900; ";
-        assert_eq!(added(&format!("{deposit}365 deposit-moved")), [0, 0, -900]);
+        assert_eq!(added(&format!("{deposit}366 deposit-moved")), [0, 0, -900]);
         assert_eq!(added(&format!("{deposit}1 close")), [0, 0, -900]);
         assert_eq!(added("1 close"), [0]);
     }

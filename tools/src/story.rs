@@ -4,7 +4,7 @@ use crate::calendar;
 use crate::core::{Account, Answer, Calendar};
 use crate::dates::{date, day};
 use crate::event::Event;
-use crate::hints;
+use crate::hints::{self, Before};
 use crate::history::{History, Step};
 use crate::table::{table, Row, Side};
 use crate::words::{self, counted, money};
@@ -132,19 +132,32 @@ fn standing(history: &History) -> String {
         cents if cents < 0 => format!("{} of credit", money(-cents)),
         cents => format!("{} owed", money(cents)),
     };
-    let held = match (account.held(), account.required()) {
-        (0, 0) => "no deposit held".to_string(),
-        (held, required) if held == required => format!("{} of deposit held", money(held.into())),
-        (held, required) => format!(
-            "{} held of a deposit of {}",
-            money(held.into()),
-            money(required.into())
-        ),
-    };
+    let held = deposit(history.before());
     let open = counted(account.open_count(), "open charge");
     let service = account.service();
     let refused = counted(history.refused as u64, "event");
     format!("Standing: {owed}, {held}, {open}, service {service}, {refused} refused.\n")
+}
+
+fn deposit(before: &Before) -> String {
+    let account = before.account();
+    let (held, required) = (account.held(), account.required());
+    let sum = money(held.into());
+    match required {
+        0 => "no deposit held".to_string(),
+        _ if held == required => format!("{sum} of deposit held, {}", earned(before)),
+        _ => format!("{sum} held of a deposit of {}", money(required.into())),
+    }
+}
+
+/// From which day on the full deposit is earned, where nothing else comes; asked from the day of the newest event on.
+fn earned(before: &Before) -> String {
+    let newest = before.newest_day();
+    match before.earned_from(newest) {
+        Some(first) if first == newest => "already earned".to_string(),
+        Some(first) => format!("earned from {} on", day(first)),
+        None => "not earned by waiting".to_string(),
+    }
 }
 
 /// What the core answers to the questions for a day, or the number that refuses the day.
@@ -278,13 +291,34 @@ Standing: 67.45 owed, no deposit held, 2 open charges, service on, 1 event refus
         let stands = |written| standing(&History::of(&events(written)).0);
         assert_eq!(
             stands("0 payment 250; 0 deposit-asked 900; 0 deposit-paid 900"),
-            "Standing: 2.50 of credit, 9.00 of deposit held, no open charges, service on, no events refused.\n"
+            "Standing: 2.50 of credit, 9.00 of deposit held, earned from day 366 (2001-01-01) on, no open charges, service on, \
+            no events refused.\n"
         );
         assert_eq!(
             stands("0 bill 5; 0 deposit-asked 900; 0 deposit-paid 100; 0 cut; 0 cut; 0 close"),
             "Standing: 0.95 of credit, no deposit held, no open charges, service closed, 2 events refused.\n"
         );
         assert!(stands("0 deposit-asked 900").contains(", 0.00 held of a deposit of 9.00, "));
+    }
+
+    #[test]
+    fn a_standing_tells_from_which_day_on_the_deposit_is_earned() {
+        let full = |day| format!("{day} deposit-asked 900; {day} deposit-paid 900; ");
+        for (events, told) in [
+            (full(0) + "365 call", "earned from day 366 (2001-01-01) on"),
+            (full(0) + "366 call", "already earned"),
+            (full(0) + "400 call", "already earned"),
+            (
+                full(72_683) + "72684 call",
+                "earned from day 73048 (2199-12-31) on",
+            ),
+            (full(72_684) + "73048 call", "not earned by waiting"),
+        ] {
+            let stands = standing(&History::of(&self::events(&events)).0);
+            let expected =
+                format!("Standing: 0.00 owed, 9.00 of deposit held, {told}, no open charges, ");
+            assert!(stands.starts_with(&expected), "{stands}");
+        }
     }
 
     const NOTICED: &str = "0 bill 6000; 20 notice; 22 call";

@@ -11,7 +11,7 @@ const MEANINGS: [&str; 24] = [
     "service does not allow it: on for a notice, call or disconnection, off for a reconnection",
     "the till has no payment of this receipt that can be returned",
     "the sum does not fit: a payout over the credit, or a deposit that is over, not higher, or not full",
-    "the deposit is not earned yet",
+    "the deposit is not earned",
     "nothing is in arrears, or a payment arrangement is in force",
     "the arrears are under 50.00",
     "a final notice is live already",

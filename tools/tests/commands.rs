@@ -60,9 +60,9 @@ fn each_command_has_a_help_of_its_own() {
 
 #[test]
 fn the_version_is_the_library_s() {
-    assert_eq!(core::version(), 10_500);
+    assert_eq!(core::version(), 10_600);
     for words in ["--version", "-V"] {
-        assert_eq!(printed(run(words, b"")), "hollupaq 1.5.0\n");
+        assert_eq!(printed(run(words, b"")), "hollupaq 1.6.0\n");
     }
 }
 

@@ -8,7 +8,7 @@ use tools::core::{Answer, Calendar};
 use tools::dates::{day, day_of, LAST_DAY};
 use tools::event::Event;
 use tools::hints::{
-    arrears_days, call_days, conduct_from, full_days, hint, notice_days, under, Before, Days,
+    arrears_days, call_days, conduct_from, hint, notice_days, under, Before, Days,
     CERTIFICATE_DAYS, DEPOSIT_NOTICES, NOTICE_LASTS, NOTICE_WAITS, RETURNABLE,
     SHORT_CERTIFICATES_FROM, SHORT_CERTIFICATE_DAYS,
 };
@@ -242,12 +242,105 @@ fn a_reconnection_wants_no_charges_of_these_days() {
     assert_eq!(passing(16, 25..=t, billed_on), after);
 }
 
+/// The dates of a deposit that becomes full, and from which it is earned.
+const YEARS: &str = "\
+2000-01-01 2001-01-01, 2000-02-28 2001-02-28, 2000-02-29 2001-03-01, 2000-03-01 2001-03-01, \
+2000-12-31 2001-12-31, 2023-02-28 2024-02-28, 2023-03-01 2024-03-01, 2024-02-28 2025-02-28, \
+2024-02-29 2025-03-01, 2024-03-01 2025-03-01, 2096-02-29 2097-03-01, 2099-02-28 2100-02-28, \
+2099-03-01 2100-03-01, 2100-02-28 2101-02-28, 2100-03-01 2101-03-01, 2103-02-28 2104-02-28, \
+2103-03-01 2104-03-01, 2104-02-29 2105-03-01, 2198-12-31 2199-12-31";
+
+/// The day from which on the deposit is told to be earned, under a move on day t that is refused: it is the first on which the
+/// core does not refuse it so. What is told before that day stands at the beginning.
+fn earned_as_told(events: &[Event], t: u32, beginning: &str) -> u32 {
+    let moved_on = |day| refused_by(8, &[events, &[moved(day)]].concat());
+    assert!(moved_on(t), "{t}");
+    let told = hint(8, &moved(t), &before(events)).unwrap();
+    let earned = named_from(&told);
+    let expected = format!(
+        "{beginning}; it is earned from {} on, with at most {DEPOSIT_NOTICES} final notices and no disconnection from {} on",
+        day(earned),
+        day(conduct_from(earned))
+    );
+    assert_eq!(told, expected);
+    assert!(moved_on(earned - 1) && !moved_on(earned), "{told}");
+    earned
+}
+
+/// The day that is told after `earned from`.
+fn named_from(told: &str) -> u32 {
+    let (_, named) = told.split_once("earned from day ").expect(told);
+    named.split(' ').next().unwrap().parse().unwrap()
+}
+
 #[test]
-fn a_deposit_has_to_be_full_on_one_of_these_days() {
-    for t in [0, 364, 365, 366, 500] {
-        let full_on = |f| [&deposit(f)[..], &[moved(t)]].concat();
-        assert_eq!(passing(8, 0..=t, full_on), all(full_days(t)));
+fn a_deposit_is_earned_from_the_same_date_a_year_later() {
+    for dates in YEARS.split(", ") {
+        let (full, earned) = dates.split_once(' ').unwrap();
+        let (full, earned) = (day_of(full).unwrap(), day_of(earned).unwrap());
+        for t in [full, full + 1, full + 364, earned - 1] {
+            let beginning = format!("it has been full since {}", day(full));
+            let told = earned_as_told(&deposit(full), t, &beginning);
+            assert_eq!(told, earned, "{dates}");
+        }
     }
+}
+
+#[test]
+fn a_deposit_is_full_since_the_newest_part_of_it() {
+    let events = [
+        Event::of(5, 10, 9_000),
+        Event::of(6, 10, 9_000),
+        Event::of(5, 59, 10_000),
+        Event::of(6, 59, 400),
+        Event::of(6, 60, 600),
+    ];
+    let beginning = format!("it has been full since {}", day(60));
+    assert_eq!(earned_as_told(&events, 375, &beginning), 425);
+}
+
+#[test]
+fn a_deposit_is_earned_where_another_number_refuses_its_move() {
+    // The payments leave no room for a credit.
+    let events = [vec![payment(0, 10_000_000_000); 100], deposit(0).to_vec()].concat();
+    let before = before(&events);
+    let answer = |t| before.account().would_answer(moved(t));
+    assert_eq!([365, 366].map(answer), [8, 19].map(Answer::Refused));
+    assert_eq!(before.earned_from(0), Some(366));
+}
+
+/// A deposit that is held by an account, and by waiting is not earned up to the last day; closing moves it.
+fn goes_back_by_closing(events: &[Event], t: u32, beginning: &str) {
+    for day in [t, LAST_DAY] {
+        assert!(refused_by(8, &[events, &[moved(day)]].concat()));
+    }
+    let told = hint(8, &moved(t), &before(events)).unwrap();
+    let last = day(LAST_DAY);
+    let expected = format!(
+        "{beginning}; up to {last}, the last, it is not earned by waiting, but closing the account moves it"
+    );
+    assert_eq!(told, expected);
+    let closed = [events, &[Event::of(16, t, 0)]].concat();
+    let owed = |events: &[Event]| before(events).account().owed();
+    assert_eq!(owed(&closed), owed(events) - 10_000);
+}
+
+#[test]
+fn a_deposit_for_which_no_day_is_left_goes_back_by_closing() {
+    for full in [72_684, 72_685, LAST_DAY] {
+        let beginning = format!("it has been full since {}", day(full));
+        for t in [full, LAST_DAY] {
+            goes_back_by_closing(&deposit(full), t, &beginning);
+        }
+    }
+    // One that was earned before a disconnection that bars it to the last day.
+    let from = conduct_from(LAST_DAY);
+    let conduct = format!(
+        "with no final notices and 1 disconnection from {} on",
+        day(from)
+    );
+    let beginning = format!("it has been full since {}, but {conduct}", day(0));
+    goes_back_by_closing(&with_deposit(&lawful(from)), LAST_DAY, &beginning);
 }
 
 /// A debt, a deposit that is full from day 0 on, and then other events.
@@ -285,6 +378,35 @@ fn a_disconnection_from_this_day_on_is_one_too_many() {
     let cut_on = |c| with_deposit(&[&lawful(c)[..], &[moved(t)]].concat());
     let earlier: Vec<u32> = (25..conduct_from(t)).collect();
     assert_eq!(passing(8, 25..=t, cut_on), earlier);
+}
+
+#[test]
+fn what_is_in_the_way_of_a_deposit_is_told_with_the_day_on_which_it_ends() {
+    let full = format!("it has been full since {}, but with", day(0));
+    let notices = with_deposit(&notices(400, DEPOSIT_NOTICES + 1));
+    for t in [442, 500, 764] {
+        let from = day(conduct_from(t));
+        let beginning = format!("{full} 3 final notices and no disconnections from {from} on");
+        assert_eq!(earned_as_told(&notices, t, &beginning), 765);
+    }
+    let cut = with_deposit(&lawful(400));
+    for (t, notices) in [
+        (400, "1 final notice"),
+        (759, "1 final notice"),
+        (760, "no final notices"),
+    ] {
+        let from = day(conduct_from(t));
+        let beginning = format!("{full} {notices} and 1 disconnection from {from} on");
+        assert_eq!(earned_as_told(&cut, t, &beginning), 765);
+    }
+    // The year is over after what is in the way; the day told is that of the year.
+    let early = [&[bill(0, 60_000)], &lawful(30)[..], &deposit(59)].concat();
+    let full = format!("it has been full since {}", day(59));
+    let from = day(30);
+    let barred = format!("{full}, but with no final notices and 1 disconnection from {from} on");
+    for (t, beginning) in [(394, barred), (395, full)] {
+        assert_eq!(earned_as_told(&early, t, &beginning), 425);
+    }
 }
 
 #[test]

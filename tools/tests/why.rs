@@ -267,6 +267,50 @@ Standing: 0.00 owed, no deposit held, no open charges, service on, 4 events refu
     assert!(told.contains(line), "{told}");
 }
 
+/// A deposit with a disconnection in its year, and one of the last year there is.
+const DEPOSITS: &[u8] = b"account
+  0 bill 6000
+  10 deposit-asked 900
+  20 deposit-paid 900
+  20 notice
+  24 call
+  25 cut
+  389 deposit-moved
+account
+  72684 deposit-asked 900
+  72684 deposit-paid 900
+  73048 deposit-moved
+";
+
+#[test]
+fn a_deposit_that_is_not_earned_is_told_from_which_day_on_it_is() {
+    let expected = "\
+389  2001-01-24  deposit moved to the account  75.00  refused 8: the deposit is not earned
+                                                        it has been full since day 20 (2000-01-21), but with no final notices and 1 disconnection from day 25 (2000-01-26) on; it is earned from day 390 (2001-01-25) on, with at most 2 final notices and no disconnection from day 26 (2000-01-27) on
+";
+    let book = pack(DEPOSITS);
+    let told = printed(run("why - 0", &book));
+    assert!(told.contains(expected), "{told}");
+    let standing = "\nStanding: 75.00 owed, 9.00 of deposit held, earned from day 390 (2001-01-25) on, 2 open charges, ";
+    assert!(told.contains(standing), "{told}");
+    let told = printed(run_words(
+        &["why", "-", "--try", "390 deposit-moved"],
+        &book,
+    ));
+    assert!(
+        told.ends_with("  66.00  would be accepted, 9.00 of deposit credited\n"),
+        "{told}"
+    );
+    let expected = "\
+73048  2199-12-31  deposit moved to the account  0.00  refused 8: the deposit is not earned
+                                                         it has been full since day 72684 (2199-01-01); up to day 73048 (2199-12-31), the last, it is not earned by waiting, but closing the account moves it
+
+Standing: 0.00 owed, 9.00 of deposit held, not earned by waiting, no open charges, service on, 1 event refused.
+";
+    let told = printed(run("why - 1", &book));
+    assert!(told.ends_with(expected), "{told}");
+}
+
 #[test]
 fn a_spreadsheet_gets_the_history() {
     let expected = "\

@@ -6,7 +6,7 @@ use crate::event::Event;
 pub const WORDS: usize = 274;
 
 /// The number of the layout, with which an account begins.
-pub const LAYOUT: u64 = 1_000_004;
+pub const LAYOUT: u64 = 1_000_005;
 
 /// The words of a calendar's bits, and its days.
 pub const CALENDAR_WORDS: usize = 32;
