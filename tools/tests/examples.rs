@@ -3,7 +3,7 @@ use std::fs;
 use std::path::{Path, PathBuf};
 use tools::core::books;
 use tools::history::History;
-use tools::{calendar, core, text};
+use tools::{calendar, core, dates, text};
 
 fn folder() -> PathBuf {
     Path::new(env!("CARGO_MANIFEST_DIR")).join("../examples")
@@ -27,7 +27,7 @@ fn names() -> Vec<String> {
 }
 
 #[test]
-fn there_are_seven() {
+fn there_are_eight() {
     let expected = [
         "deposit-way",
         "family-in-arrears",
@@ -36,6 +36,7 @@ fn there_are_seven() {
         "shop-with-returned-checks",
         "shorter-certificates",
         "three-tills",
+        "twelve-months",
     ];
     assert_eq!(names(), expected);
 }
@@ -132,6 +133,29 @@ fn a_certificate_bars_the_disconnection_to_its_last_day() {
             assert!(note.ends_with(date), "{note}");
         }
     }
+}
+
+/// A move is refused on the days before the one that is told, and accepted on that.
+#[test]
+fn a_deposit_is_moved_on_the_day_from_which_it_is_earned() {
+    let list = books::read(&read("twelve-months", "book")).unwrap();
+    let earned = ["2025-03-01", "2024-03-01", "2024-03-02"];
+    for (events, date) in list.iter().zip(earned) {
+        let (_, steps) = History::of(events);
+        let moves: Vec<_> = steps.iter().filter(|step| step.event.kind == 7).collect();
+        let (last, refused) = moves.split_last().unwrap();
+        assert_eq!(
+            (last.number(), dates::day_of(date)),
+            (0, Some(last.event.day))
+        );
+        assert!(!refused.is_empty());
+        for step in refused {
+            let told = format!("; it is earned from {} on, ", dates::day(last.event.day));
+            assert_eq!(step.number(), 8);
+            assert!(step.note.as_deref().unwrap().contains(&told));
+        }
+    }
+    assert_eq!(list.len(), earned.len());
 }
 
 /// What `hollupaq why` tells is taken of an account that is posted to: it is the core's history of the book, and its standing.

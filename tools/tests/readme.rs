@@ -81,7 +81,7 @@ fn holds(file: &str, name: &str) -> usize {
 
 #[test]
 fn readme_shows_what_is_printed() {
-    assert_eq!(holds("README.md", "readme"), 9);
+    assert_eq!(holds("README.md", "readme"), 10);
     let calls = shown("README.md");
     assert!(calls.iter().all(|shown| shown.output.is_some()));
 }
