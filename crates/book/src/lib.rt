@@ -44,10 +44,10 @@ fn table_fine(b: &[u8], a: usize, r: usize) -> bool
     let mut sum = 0;
     for i in 0..a {
         let at = base(i);
-        if get::<4>(b, at) as usize != start + RECORD * sum {
+        if get(b, at, 4) as usize != start + RECORD * sum {
             return false;
         }
-        sum += get::<4>(b, at + 4) as usize;
+        sum += get(b, at + 4, 4) as usize;
     }
     sum == r
 }
@@ -122,8 +122,8 @@ pub fn account(b: &[u8], i: usize) -> Span
         return Span::default();
     }
     let at = base(i);
-    let offset = get::<4>(b, at) as usize;
-    let count = get::<4>(b, at + 4) as usize;
+    let offset = get(b, at, 4) as usize;
+    let count = get(b, at + 4, 4) as usize;
     Span {
         first: offset.saturating_sub(base(accounts(b))) / RECORD,
         count,

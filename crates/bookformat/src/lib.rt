@@ -38,7 +38,7 @@ pub fn accounts(b: &[u8]) -> usize
     ensures value { result ≡ accounts b.now }
     ensures small { result < 4294967296 }
 {
-    get::<4>(b, 0) as usize
+    get(b, 0, 4) as usize
 }
 
 pub fn records(b: &[u8]) -> usize
@@ -46,7 +46,7 @@ pub fn records(b: &[u8]) -> usize
     ensures value { result ≡ records b.now }
     ensures small { result < 4294967296 }
 {
-    get::<4>(b, 4) as usize
+    get(b, 4, 4) as usize
 }
 
 // Where the records begin behind the table of so many accounts.
@@ -81,7 +81,7 @@ pub fn event_at(b: &[u8], p: usize) -> Event
     Event {
         kind: b[p],
         option: b[p + 1],
-        day: get::<4>(b, p + 4) as u32,
-        amount: get::<8>(b, p + 8),
+        day: get(b, p + 4, 4) as u32,
+        amount: get(b, p + 8, 8),
     }
 }

@@ -45,7 +45,7 @@ fn take_counts(book: Book, counts: &mut [u32])
     ensures { let b = book.entry.bytes.now in counts.new ≡ sets counts.old 0 (counts_at (accounts b) 8 b) }
 {
     for (i, count) in counts[..book.accounts()].iter_mut().enumerate() {
-        *count = get::<4>(book.bytes, base(i) + 4) as u32;
+        *count = get(book.bytes, base(i) + 4, 4) as u32;
     }
 }
 

@@ -71,8 +71,8 @@ fn put_entry(out: &mut [u8], p: usize, first: usize, n: usize)
     requires { p + 8 ≤ length out.old }
     ensures { out.new ≡ sets out.old p (le 4 first ++ le 4 n) }
 {
-    put::<4>(out, p, first as u64);
-    put::<4>(out, p + 4, n as u64);
+    put(out, p, 4, first as u64);
+    put(out, p + 4, 4, n as u64);
 }
 
 // The table of the counts, from byte 8 on. By the places of its entries: no lemma of the library says what `chunks_exact_mut` leaves.
@@ -102,8 +102,8 @@ fn put_record(out: &mut [u8], p: usize, e: Event)
     ensures { out.new ≡ sets out.old p (record_bytes e) }
 {
     put_marks(out, p, e.kind, e.option);
-    put::<4>(out, p + 4, u64::from(e.day));
-    put::<8>(out, p + 8, e.amount);
+    put(out, p + 4, 4, u64::from(e.day));
+    put(out, p + 8, 8, e.amount);
 }
 
 // Every record, from byte p on, by its place, as `put_table` stores entries. The other fields are read at the index of the first, since a

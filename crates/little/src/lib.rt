@@ -6,27 +6,27 @@ ghost use Rattle.std.specs.Prelude.{◌≡◌, ◌+◌, ◌<◌, ◌≤◌, leng
 ghost use Rattle.std.proofs.lemmas.List.Edits.{sets};
 ghost use Rattle.little.specs.Little.{num, le, top};
 
-// The number of W bytes at p.
-pub fn get<const W: usize>(b: &[u8], p: usize) -> u64
-    requires within { p + W ≤ length b.now }
-    requires narrow { W ≤ 8 }
-    ensures value { result ≡ num W p b.now }
-    ensures small { result < top W }
+// The number of w bytes at p.
+pub fn get(b: &[u8], p: usize, w: usize) -> u64
+    requires within { p + w ≤ length b.now }
+    requires narrow { w ≤ 8 }
+    ensures value { result ≡ num w p b.now }
+    ensures small { result < top w }
 {
     let mut number: u64 = 0;
-    for byte in b[p..p + W].iter().rev() {
+    for byte in b[p..p + w].iter().rev() {
         number = u64::from(*byte) + 256 * number;
     }
     number
 }
 
-// Stores the W bytes of v from p on.
-pub fn put<const W: usize>(out: &mut [u8], p: usize, v: u64)
-    requires { p + W ≤ length out.old }
-    ensures { out.new ≡ sets out.old p (le W v) }
+// Stores the w bytes of v from p on.
+pub fn put(out: &mut [u8], p: usize, w: usize, v: u64)
+    requires { p + w ≤ length out.old }
+    ensures { out.new ≡ sets out.old p (le w v) }
 {
     let mut rest = v;
-    for byte in out[p..p + W].iter_mut() {
+    for byte in out[p..p + w].iter_mut() {
         *byte = (rest % 256) as u8;
         rest /= 256;
     }

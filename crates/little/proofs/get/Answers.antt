@@ -9,42 +9,42 @@ use Rattle.little.proofs.get.Goals as goal
 
 pub loop-byte-init : goal.loop-byte-init
 unfolding un
-loop-byte-init g c = record { value = refl; small = omega arith }
+loop-byte-init c = record { value = refl; small = omega arith }
 
 pub overflow_mul-number : goal.overflow_mul-number
-overflow_mul-number g c =
+overflow_mul-number c =
     let l = c.loop-byte in
-    let q : c.args.p + g.row.W - c.args.p ≡ g.row.W = omega arith in
-    let long : length c.iter.result.rest.now ≡ g.row.W = rw (c.iter.ensures.rest, q) (length_part g.row.W c.args.p c.args.b.now c.requires.within) in
+    let q : c.args.p + c.args.w - c.args.p ≡ c.args.w = omega arith in
+    let long : length c.iter.result.rest.now ≡ c.args.w = rw (c.iter.ensures.rest, q) (length_part c.args.w c.args.p c.args.b.now c.requires.within) in
     omega (
       arith,
       read_fits _ c.iter.result.rest.now (cc) l.yielded l.byte-iterator l.yielded_by c.next.result c.next.new.self c.next.ensures.steps
-          l.number g.row.W c.in-Some.byte c.in-Some.is l.invariant long c.requires.narrow,
+          l.number c.args.w c.in-Some.byte c.in-Some.is l.invariant long c.requires.narrow,
     )
 
 pub overflow_add-number : goal.overflow_add-number
-overflow_add-number g c =
+overflow_add-number c =
     let l = c.loop-byte in
-    let q : c.args.p + g.row.W - c.args.p ≡ g.row.W = omega arith in
-    let long : length c.iter.result.rest.now ≡ g.row.W = rw (c.iter.ensures.rest, q) (length_part g.row.W c.args.p c.args.b.now c.requires.within) in
+    let q : c.args.p + c.args.w - c.args.p ≡ c.args.w = omega arith in
+    let long : length c.iter.result.rest.now ≡ c.args.w = rw (c.iter.ensures.rest, q) (length_part c.args.w c.args.p c.args.b.now c.requires.within) in
     let byte : c.from.result < 256 = search rules in
     omega (
       arith,
       byte,
       read_fits _ c.iter.result.rest.now (cc) l.yielded l.byte-iterator l.yielded_by c.next.result c.next.new.self c.next.ensures.steps
-          l.number g.row.W c.in-Some.byte c.in-Some.is l.invariant long c.requires.narrow,
+          l.number c.args.w c.in-Some.byte c.in-Some.is l.invariant long c.requires.narrow,
     )
 
 pub loop-byte-preserved : goal.loop-byte-preserved
-loop-byte-preserved g c = read_more c.loop-byte.yielded c.loop-byte.number c.in-Some.byte c.from.result c.loop-byte.invariant c.from.ensures (search rules)
+loop-byte-preserved c = read_more c.loop-byte.yielded c.loop-byte.number c.in-Some.byte c.from.result c.loop-byte.invariant c.from.ensures (search rules)
 
 pub returns : goal.returns
 unfolding num
-returns g c =
+returns c =
     let l = c.loop-byte in
-    let q : c.args.p + g.row.W - c.args.p ≡ g.row.W = omega arith in
+    let q : c.args.p + c.args.w - c.args.p ≡ c.args.w = omega arith in
     let part_is = rw q at c.iter.ensures.rest in
-    let long : length c.iter.result.rest.now ≡ g.row.W = rw part_is (length_part g.row.W c.args.p c.args.b.now c.requires.within) in
+    let long : length c.iter.result.rest.now ≡ c.args.w = rw part_is (length_part c.args.w c.args.p c.args.b.now c.requires.within) in
     let all = read_all _ c.iter.result.rest.now (cc) l.yielded l.byte-iterator l.yielded_by c.next.result c.next.new.self c.next.ensures.steps
-    l.number g.row.W c.in-None.is l.invariant long in
+    l.number c.args.w c.in-None.is l.invariant long in
     record { value = all.0 ∙ ap un part_is; small = all.1 }
