@@ -33,6 +33,19 @@ pub fn put_number(out: &mut [u8], p: usize, n: u64, mark: u8) -> usize
     end + 1
 }
 
+// How many bytes a less b takes as text, its minus sign among them: for a program that measures a text before it stores it.
+#[tactic(auto, using(crate::proofs::Numerals::length_difference, crate::proofs::Numerals::difference_short))]
+pub fn difference_width(a: u64, b: u64) -> usize
+    ensures told { result ≡ length (signed_decimal (sub_ℕ a b)) }
+    ensures short { result ≤ 21 }
+{
+    if a < b {
+        1 + width(b - a)
+    } else {
+        width(a - b)
+    }
+}
+
 // Stores a less b, with a minus sign when negative, and the byte after it, and says where the text goes on.
 pub fn put_difference(out: &mut [u8], p: usize, a: u64, b: u64, mark: u8) -> usize
     requires { p + length (signed_decimal (sub_ℕ a b) ++ (mark ∷ [])) ≤ length out.old }
