@@ -122,7 +122,7 @@ passing_of m e f z = record { fit = f; looked = refl; free = refusal_seen (view 
 
 -- ---- the exits of a judging
 module _ (m : List ℕ) (e : Event) where
-  judges_refused : {A : Type 0} (r : Refusal) (y : A) → Err r ≡ answered (refusal_at (state_on m) e) y → Judges m e (Err r) m
+  pub judges_refused : {A : Type 0} (r : Refusal) (y : A) → Err r ≡ answered (refusal_at (state_on m) e) y → Judges m e (Err r) m
   unfolding answer_at state_after
   judges_refused r y h =
       let g = answered_err (refusal_at (state_on m) e) r y (receipt_at (state_on m) e) h in

@@ -29,7 +29,7 @@ events_get_d zero p k b h = absurd (not-suc-le-zero h)
 events_get_d (suc n) p zero b h = ap (λ q. event_at q b) (omega arith)
 events_get_d (suc n) p (suc k) b h = events_get_d n (p + 16) k b (le_of_suc-le-suc h) ∙ ap (λ q. event_at q b) (omega arith)
 
-record_at_lem : (b : List ℕ) (k : ℕ) → book_refusal b ≡ 0 → k < records b → event_at (base (accounts b) + 16 * k) b ≡ record_of b k
+pub record_at_lem : (b : List ℕ) (k : ℕ) → book_refusal b ≡ 0 → k < records b → event_at (base (accounts b) + 16 * k) b ≡ record_of b k
 record_at_lem b k z h = rw (decode_parts b z).1 (sym (events_get_d (records b) (base (accounts b)) k b h))
 
 -- where the offset of account i points, and its count
@@ -62,11 +62,11 @@ total_take [] i h = absurd (not-suc-le-zero h)
 total_take (c ∷ cs) zero h = omega (arith, sum_by-cons (λ x. x) c cs)
 total_take (c ∷ cs) (suc i) h = omega (arith, sum_by-cons (λ x. x) c cs, sum_by-cons (λ x. x) c (take i cs), total_take cs i (le_of_suc-le-suc h))
 
-offset_of : (b : List ℕ) (i : ℕ) → book_refusal b ≡ 0 → i < accounts b
+pub offset_of : (b : List ℕ) (i : ℕ) → book_refusal b ≡ 0 → i < accounts b
     → num 4 (8 + 8 * i) b ≡ base (accounts b) + 16 * sum (take i (counts_at (accounts b) 8 b))
 offset_of b i z h = omega (arith, offset_at (base (accounts b)) (records b) (accounts b) 8 0 i b (book_facts b z).0.entries h)
 
-account_at_lem : (b : List ℕ) (i : ℕ) (s : Span) → book_refusal b ≡ 0 → i < accounts b
+pub account_at_lem : (b : List ℕ) (i : ℕ) (s : Span) → book_refusal b ≡ 0 → i < accounts b
     → num 4 (8 + 8 * i) b ≡ base (accounts b) + 16 * s.first → s.count ≡ num 4 (8 + 8 * i + 4) b → IsAccount b i s
 account_at_lem b i s z h f c =
     let a = accounts b in

@@ -31,7 +31,7 @@ length_lent zero i lists = refl
 length_lent (suc n) i lists = ap suc (length_lent n (i + 1) lists)
 
 -- the stores of a whole book from byte 0 leave the book of the list, and the old tail
-wrote_all : (lists : Columns) (old : List ℕ) → WriteRoom lists (length old)
+pub wrote_all : (lists : Columns) (old : List ℕ) → WriteRoom lists (length old)
     → sets old 0 (book_of lists.counts (lent (length lists.kinds) 0 lists)) ≡ after 0 (encode (lent_list lists)) old
 wrote_all lists old s =
     let es = lent (length lists.kinds) 0 lists in

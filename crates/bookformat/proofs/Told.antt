@@ -17,7 +17,7 @@ use Rattle.bookformat.specs.Lent.{Columns, after, or_else, sizes_tests, sizes_fi
 use Rattle.bookformat.specs.Facts.{Header, Fits, Sizes, WriteRoom}
 use Rattle.bookformat.proofs.Tests.{each, header_passed, either}
 
-header_facts : (b : List ℕ) → header_fine b ≡ true → Header b
+pub header_facts : (b : List ℕ) → header_fine b ≡ true → Header b
 header_facts b e =
     let f = each (header_tests b) e in
     record {
@@ -33,7 +33,7 @@ book_facts b e =
     let p = header_passed (header_fine b) (cond (records_fine (records b) (base (accounts b)) b) 0 21) 19 e in
     (header_facts b p.0, (header_passed (records_fine (records b) (base (accounts b)) b) 0 20 p.1).0)
 
-sizes_facts : (lists : Columns) → sizes_fine lists ≡ true → Sizes lists
+pub sizes_facts : (lists : Columns) → sizes_fine lists ≡ true → Sizes lists
 sizes_facts lists e =
     let f = each (sizes_tests lists) e in
     record {

@@ -46,7 +46,7 @@ use Rattle.bookformat.proofs.Told.{book_facts}
 
 -- ---- parts of a list
 
-part_add : (n m p : ℕ) (b : List ℕ) → part (n + m) p b ≡ part n p b ++ part m (p + n) b
+pub part_add : (n m p : ℕ) (b : List ℕ) → part (n + m) p b ≡ part n p b ++ part m (p + n) b
 part_add n m p b = rw (take-add n m (drop p b), drop-drop n p b)
 
 pub part_cons : (w p q : ℕ) (b : List ℕ) → p < length b → q ≡ p + 1 → part (suc w) p b ≡ get_or b p 0 ∷ part w q b
@@ -213,7 +213,7 @@ pub split_flat : (l : AccountList) → split (map length l) (flat l) ≡ l
 split_flat [] = refl
 split_flat (a ∷ l) = rw (take-append_seam a (flat l), drop-append_seam a (flat l), split_flat l)
 
-total_lengths : (l : AccountList) → sum (map length l) ≡ length (flat l)
+pub total_lengths : (l : AccountList) → sum (map length l) ≡ length (flat l)
 total_lengths [] = refl
 total_lengths (a ∷ l) = omega (arith, sum_by-cons (λ x. x) (length a) (map length l), total_lengths l, length-append a (flat l))
 

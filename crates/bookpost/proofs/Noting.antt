@@ -111,7 +111,7 @@ history_none b i ns os r e =
     record { answer = t.0; numbers = unchanged n _ ns t.1; owing = unchanged n _ os t.1 }
 
 module _ (b : List ℕ) (i : ℕ) (ns : List ℕ) (os : List ℤ) (z : history_refusal b i (length ns) (length os) ≡ 0) where
-  history_room : (length (book_account b i) ≤ length ns) × (length (book_account b i) ≤ length os)
+  pub history_room : (length (book_account b i) ≤ length ns) × (length (book_account b i) ≤ length os)
   history_room =
       let n = length (book_account b i) in
       let r = or_zero (book_refusal b) (cond (leb n (length ns) && leb n (length os)) 0 22) z in

@@ -89,7 +89,7 @@ module _ (c : Option Calendar) (t : Taken c) (h : History) (e : Event) (w : Lawf
   unfolding answer_to
   answer_found = let k = laws c t h w in rw (k.passing, k.account_is) (answer_same c h e k)
 
-  words_found : words_after (words_of (account_of c h)) e ≡ words_of (account_of c (offered c h e))
+  pub words_found : words_after (words_of (account_of c h)) e ≡ words_of (account_of c (offered c h e))
   unfolding words_after
   words_found = let k = laws c t h w in rw (k.passing, k.account_is) (ap words_of (state_same c t h e w))
 

@@ -30,8 +30,12 @@ pub record Walked (past : List Event) (m : List ℕ) (r : ℕ) : Type 0 where
   pub at : m ≡ run fresh_words past
   pub count : r ≡ refused_in (answers fresh_words past)
 
+-- for the reader: a fresh account is where a walk begins
+pub begin : (m : List ℕ) → m ≡ fresh_words → Walked [] m 0
+begin m e = record { at = e; count = refl }
+
 module _ (past : List Event) (m : List ℕ) (r : ℕ) (w : Walked past m r) where
-  walked_passes : passes m ≡ true
+  pub walked_passes : passes m ≡ true
   walked_passes = rw w.at (demand_3 None past tt).passing
 
   pub walked_fit : Fit m

@@ -32,7 +32,7 @@ use Rattle.questions.specs.Questions.{asked_of, working_days_in, Tells, Says}
 use Rattle.hollupaq.specs.Library.{room_for, Begun, told, told_yes, answer_word, amount_word, truth_word, count_word, reading_word}
 use Rattle.hollupaq.specs.Books.{Stored}
 
-told_number : (n v : ℕ) → (n ≡ 0 → ⊥) → n ≡ told n v
+pub told_number : (n v : ℕ) → (n ≡ 0 → ⊥) → n ≡ told n v
 told_number zero v h = absurd (h refl)
 told_number (suc n) v h = refl
 

@@ -22,6 +22,11 @@ abbrev pub Chained : (b c : ℕ) → List Item → Type 0
 Chained b c [] = b ≡ c
 Chained b c (x ∷ xs) = (b < x.upto) × Chained x.upto c xs
 
+-- for the reader: no sum falls on the way
+pub chain_le : (b c : ℕ) (xs : List Item) → Chained b c xs → b ≤ c
+chain_le b c [] e = omega (arith, e)
+chain_le b c (x ∷ xs) e = omega (arith, e.0, chain_le x.upto c xs e.1)
+
 -- ---- one more item joins at the end; b is the sum before the first, c that of all
 pub ring_joined : (n k b c : ℕ) (s : List ℕ) (d a : ℕ) → length s ≡ ring_size → n < places → Chained b c (items_from n k b s)
     → items_from (suc n) k b (stored s (k + n) d (c + a)) ≡ items_from n k b s ++ (record { day = d; amount = a; upto = c + a } ∷ [])

@@ -1,6 +1,6 @@
 -- What the test tells, and that an event which the table lets pass has room.
 use Rattle.std.proofs.lemmas.Grind.{common_steps}
-use Prim.Native.Nat.{◌-◌}
+use Prim.Native.Nat.{ℕ, ◌-◌}
 use mathlib.Core.Path.{◌≡◌}
 use mathlib.Core.Bool.{true}
 use mathlib.Core.List.{[], ◌∷◌}
@@ -10,11 +10,11 @@ use borrow.Author.Tests.{leb-true}
 use Rattle.basics.proofs.Cases.{links}
 use Rattle.rules.specs.declared.Event.{Event}
 use Rattle.rules.specs.declared.View.{View}
-use Rattle.rules.specs.Money.{charges}
+use Rattle.rules.specs.Money.{charges, credit_by}
 use Rattle.rules.specs.Limits.{limit, most_open}
 use Rattle.rules.specs.Table.{charge_of, credit_of}
 use Rattle.rules.proofs.Room.{Room}
-use Rattle.ledger.specs.Ledger.{Ledger, credits_by, is_settled, ledger_ok, LedgerFit, LedgerRoom}
+use Rattle.ledger.specs.Ledger.{Ledger, credits_by, is_settled, ledger_ok, LedgerFit, OneThing, LedgerRoom}
 use Rattle.ledger.proofs.Kept.{still_settled}
 
 pub ledger_fit : (l : Ledger) → ledger_ok l ≡ true → LedgerFit l
@@ -30,6 +30,10 @@ ledger_fit l e =
       open_le = leb-true _ _ r.1.1.1.1.1.0;
       still = still_settled l r.1.1.1.1.1.1.0;
     }
+
+-- for the reader: every event does one thing at most, whatever the deposit held
+pub one_thing : (held : ℕ) (e : Event) → OneThing e (charges e) (credit_by held e)
+one_thing held e = grind (arith, common_steps)
 
 -- an event that the table lets pass has room, where the View's sums are the ledger's
 pub ledger_room : (l : Ledger) (v : View) (e : Event) → LedgerFit l → Room v e

@@ -40,13 +40,13 @@ le_un (b ∷ l) h =
     let d : (b + 256 * un l) / 256 ≡ un l = omega arith in
     rw (m, d, le_un l (λ i. h (suc i)))
 
-bytes_take : (n : ℕ) (l : List ℕ) → Bytes l → Bytes (take n l)
+pub bytes_take : (n : ℕ) (l : List ℕ) → Bytes l → Bytes (take n l)
 bytes_take zero l h i = omega arith
 bytes_take (suc n) [] h i = omega arith
 bytes_take (suc n) (b ∷ l) h zero = h 0
 bytes_take (suc n) (b ∷ l) h (suc i) = bytes_take n l (λ j. h (suc j)) i
 
-bytes_part : (w p : ℕ) (l : List ℕ) → Bytes l → Bytes (part w p l)
+pub bytes_part : (w p : ℕ) (l : List ℕ) → Bytes l → Bytes (part w p l)
 bytes_part w p l h = bytes_take w (drop p l) (λ i. rw get_or-drop (h (p + i)))
 
 pub length_part : (w p : ℕ) (l : List ℕ) → p + w ≤ length l → length (part w p l) ≡ w

@@ -7,7 +7,7 @@ use lib.ListN.{length, set, drop}
 use lib.Seq.{sets, sets-eq}
 
 -- stores of one list after another
-sets_append : {A : Type 0} (x y l : List A) (i : ℕ) → sets l i (x ++ y) ≡ sets (sets l i x) (i + length x) y
+pub sets_append : {A : Type 0} (x y l : List A) (i : ℕ) → sets l i (x ++ y) ≡ sets (sets l i x) (i + length x) y
 sets_append [] y l i = ap (λ k. sets l k y) (omega arith)
 sets_append (a ∷ x) y l i = sets_append x y (set l i a) (suc i) ∙ ap (λ k. sets (sets (set l i a) (suc i) x) k y) (omega arith)
 

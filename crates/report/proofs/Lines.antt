@@ -87,6 +87,12 @@ line_length i m h o v r =
       length_push (decimal r) 10,
     )
 
+-- for the reader: how long the line of any Standing is
+pub standing_length : (i : ℕ) (s : Standing) → length (standing_line i s)
+    ≡ length (decimal i) + length (signed_decimal (sub_ℕ s.charged s.credits)) + length (decimal s.held) +
+    (length (decimal s.open_count) + length (word_of s.service) + length (decimal s.refused)) + 6
+standing_length i s = ap length (standing_line_lem i s) ∙ line_length i (sub_ℕ s.charged s.credits) s.held s.open_count s.service s.refused
+
 -- every number of a lawful history fits 64 bits
 module _ (h : History) (w : Lawful None h) where
   owed_short : length (signed_decimal (owed h)) ≤ 21

@@ -147,7 +147,7 @@ module _ (text old : List ℕ) where
       let f = lt-ltb (length old) (length text) h in
       record { number = rw f; written = rw f; bytes = rw f }
 
-refused_as : (n : ℕ) (b : List ℕ) → eqb n 0 ≡ false → text_by n b ≡ refused_text n
+pub refused_as : (n : ℕ) (b : List ℕ) → eqb n 0 ≡ false → text_by n b ≡ refused_text n
 refused_as zero b h = absurd (cc)
 refused_as (suc n) b h = refl
 

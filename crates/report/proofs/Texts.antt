@@ -30,7 +30,7 @@ text_by_sized zero b z =
     record { some = omega (arith, listing_length b); fits = omega (arith, listing_short b z, (book_facts b z).0.few) }
 text_by_sized (suc n) b z = refused_sized (suc n) (omega (arith, book_in_table b))
 
-text_sized : (b : List ℕ) → SizedText (text_of b)
+pub text_sized : (b : List ℕ) → SizedText (text_of b)
 text_sized b = text_by_sized (book_refusal b) b refl
 
 pub input_sized : (b : List ℕ) → SizedText (input_text b)

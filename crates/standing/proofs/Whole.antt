@@ -12,7 +12,7 @@ text_of_front_by true xs q =
     rw (q, cut) refl
 text_of_front_by false xs q = ap input_text (take_all 65537 xs (omega (arith, ltb-false 65536 (length xs) q)))
 
-text_of_front : (xs : List ℕ) → input_text (take 65537 xs) ≡ input_text xs
+pub text_of_front : (xs : List ℕ) → input_text (take 65537 xs) ≡ input_text xs
 text_of_front xs = text_of_front_by (ltb 65536 (length xs)) xs refl
 
 -- what was read of an input whose bytes are known, and the output after the text for what was read

@@ -53,6 +53,44 @@ of_unknown v e f =
       is_not closing (omega arith) (omega arith),
     )
 
+-- for the reader: no row from 5 on concerns a certificate or an approval either
+module _ (v : View) (e : Event) where
+  abbrev Not : ℕ → Type 0
+  Not k = e.kind ≡ k → ⊥
+
+  pub of_none : ((e.kind ≡ bill) ⊎ (e.kind ≡ fee) → ⊥)
+      → Not payment
+      → Not returned_payment
+      → Not deposit_asked
+      → Not deposit_paid
+      → Not deposit_moved
+      → Not payout
+      → Not arrangement
+      → Not final_notice
+      → Not call
+      → Not disconnection
+      → Not reconnection
+      → Not closing
+      → 0 ≡ from_row5 v e
+  unfolding from_row5
+  of_none n1 n2 n3 n5 n6 n7 n8 n11 n12 n13 n14 n15 n16 =
+      rw (
+        ne_eqb _ _ (λ z. n1 (inl z)),
+        ne_eqb _ _ (λ z. n1 (inr z)),
+        ne_eqb _ _ n2,
+        ne_eqb _ _ n3,
+        ne_eqb _ _ n5,
+        ne_eqb _ _ n6,
+        ne_eqb _ _ n7,
+        ne_eqb _ _ n8,
+        ne_eqb _ _ n11,
+        ne_eqb _ _ n12,
+        ne_eqb _ _ n13,
+        ne_eqb _ _ n14,
+        ne_eqb _ _ n15,
+        ne_eqb _ _ n16,
+      )
+
 pub of_item : (v : View) (e : Event) (charge : ℕ) → charge ≡ min (charge_of v e) largest → (e.kind ≡ bill) ⊎ (e.kind ≡ fee)
     → item_rows v.open_count v.charged charge ≡ from_row5 v e
 unfolding from_row5
