@@ -111,12 +111,13 @@ history_none b i ns os r e =
     record { answer = t.0; numbers = unchanged n _ ns t.1; owing = unchanged n _ os t.1 }
 
 module _ (b : List ℕ) (i : ℕ) (ns : List ℕ) (os : List ℤ) (z : history_refusal b i (length ns) (length os) ≡ 0) where
-  pub history_room : (length (book_account b i) ≤ length ns) × (length (book_account b i) ≤ length os)
+  pub history_room : (book_refusal b ≡ 0) × (length (book_account b i) ≤ length ns) × (length (book_account b i) ≤ length os)
   history_room =
       let n = length (book_account b i) in
       let r = or_zero (book_refusal b) (cond (leb n (length ns) && leb n (length os)) 0 22) z in
       let t : (leb n (length ns) && leb n (length os)) ≡ true =
       on (leb n (length ns) && leb n (length os)) (λ q. q) (λ q. absurd (omega (arith, rw q at r.1))) in (
+        r.0,
         leb-true n (length ns) (and_parts (leb n (length ns)) (leb n (length os)) t).0,
         leb-true n (length os) (and_parts (leb n (length ns)) (leb n (length os)) t).1,
       )
@@ -127,6 +128,6 @@ module _ (b : List ℕ) (i : ℕ) (ns : List ℕ) (os : List ℤ) (z : history_r
       let es = book_account b i in
       record {
         answer = sym z;
-        numbers = p ∙ (sets_front (numbers_of es) ns (omega (arith, length_numbers es, history_room.0)) ∙ sym (ap (λ n. after n (numbers_of es) ns) z));
-        owing = q ∙ (sets_front (owed_from [] es) os (omega (arith, length_owed [] es, history_room.1)) ∙ sym (ap (λ n. after n (owed_from [] es) os) z));
+        numbers = p ∙ (sets_front (numbers_of es) ns (omega (arith, length_numbers es, history_room.1)) ∙ sym (ap (λ n. after n (numbers_of es) ns) z));
+        owing = q ∙ (sets_front (owed_from [] es) os (omega (arith, length_owed [] es, history_room.2)) ∙ sym (ap (λ n. after n (owed_from [] es) os) z));
       }

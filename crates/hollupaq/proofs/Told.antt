@@ -42,6 +42,18 @@ told_value n v w z e = rw (z, e)
 pub not_told : (n v : ℕ) → false ≡ eqb n 0 → n ≡ told n v
 not_told n v q = told_number n v (λ z. true≢false (sym (rw z at q)))
 
+-- ---- for a day
+pub told_word : (a : Result ℕ Refusal) (n c : ℕ) → c ≤ limit → Tells a n c → amount_word a ≡ told n c
+told_word (Ok x) n c l t =
+    let z : x ≡ c = t.value ∙ rw (sym t.told) in
+    (omega arith) ∙ told_value n x c (sym t.number) z
+told_word (Err r) n c l t = t.number ∙ not_told n c t.told
+
+pub said_word : (x : Result Bool Refusal) (n : ℕ) (b : Bool) → Says x n b → truth_word x ≡ told_yes n b
+said_word (Ok true) n b s = told_value n 1 (cond b 1 0) (sym s.number) (let z = rw (sym s.told) at s.value in rw (sym z))
+said_word (Ok false) n b s = told_value n 0 (cond b 1 0) (sym s.number) (let z = rw (sym s.told) at s.value in rw (sym z))
+said_word (Err r) n b s = s.number ∙ not_told n _ s.told
+
 -- ---- an answer by a number of the table
 told_answered : (n x : ℕ) → n < length refusals → (n ≡ 0 → x ≤ most_amount) → amount_word (answered n x) ≡ told n x
 told_answered n x h small =
@@ -57,18 +69,6 @@ word_small (Err r) h = refl
 -- so an answer to an event is one word, by what the answer is
 pub word_is : {w : ℕ} {r : Answer} (a : Answer) → w ≡ amount_word r → r ≡ a → receipt_of a ≤ limit + 1 → w ≡ answer_word a
 word_is a p q s = p ∙ (ap amount_word q ∙ word_small a s)
-
--- ---- for a day
-pub told_word : (a : Result ℕ Refusal) (n c : ℕ) → c ≤ limit → Tells a n c → amount_word a ≡ told n c
-told_word (Ok x) n c l t =
-    let z : x ≡ c = t.value ∙ rw (sym t.told) in
-    (omega arith) ∙ told_value n x c (sym t.number) z
-told_word (Err r) n c l t = t.number ∙ not_told n c t.told
-
-pub said_word : (x : Result Bool Refusal) (n : ℕ) (b : Bool) → Says x n b → truth_word x ≡ told_yes n b
-said_word (Ok true) n b s = told_value n 1 (cond b 1 0) (sym s.number) (let z = rw (sym s.told) at s.value in rw (sym z))
-said_word (Ok false) n b s = told_value n 0 (cond b 1 0) (sym s.number) (let z = rw (sym s.told) at s.value in rw (sym z))
-said_word (Err r) n b s = s.number ∙ not_told n _ s.told
 
 -- ---- a bill
 pub bill_word : (class usage : ℕ) → amount_word (bill_of class usage) ≡ told (bill_refusal class usage) (cents_of class usage)
