@@ -40,6 +40,12 @@ le_un (b ∷ l) h =
     let d : (b + 256 * un l) / 256 ≡ un l = omega arith in
     rw (m, d, le_un l (λ i. h (suc i)))
 
+-- for the reader: bytes make a number that fits in as many
+pub un_lt : (l : List ℕ) → Bytes l → un l < top (length l)
+unfolding un
+un_lt [] h = omega arith
+un_lt (b ∷ l) h = let s : b < 256 = h 0 in omega (arith, un_lt l (λ i. h (suc i)))
+
 pub bytes_take : (n : ℕ) (l : List ℕ) → Bytes l → Bytes (take n l)
 bytes_take zero l h i = omega arith
 bytes_take (suc n) [] h i = omega arith
@@ -52,11 +58,20 @@ bytes_part w p l h = bytes_take w (drop p l) (λ i. rw get_or-drop (h (p + i)))
 pub length_part : (w p : ℕ) (l : List ℕ) → p + w ≤ length l → length (part w p l) ≡ w
 length_part w p l h = simp (length-take, length-drop) (omega arith)
 
+-- n elements from p on are the part of width w, where n is w
+pub part_is : {n : ℕ} (w p : ℕ) (l : List ℕ) → n ≡ w → take n (drop p l) ≡ part w p l
+part_is w p l e = rw e refl
+
 module _ (w p : ℕ) (b : List ℕ) (h : p + w ≤ length b) (t : Bytes b) where
   -- the bytes of the number at p are the bytes at p
   pub le_num : le w (num w p b) ≡ part w p b
   unfolding num
   le_num = ap (λ k. le k (num w p b)) (sym (length_part w p b h)) ∙ le_un (part w p b) (bytes_part w p b t)
+
+  -- for the reader: the number at p fits in its w bytes, of any width
+  pub num_lt : num w p b < top w
+  unfolding num
+  num_lt = rw (length_part w p b h) at (un_lt (part w p b) (bytes_part w p b t))
 
 -- the number at p where its bytes were put
 pub num_at : (w n p : ℕ) (x z : List ℕ) → length x ≡ p → n < top w → num w p (x ++ (le w n ++ z)) ≡ n

@@ -28,6 +28,10 @@ use Rattle.medical.specs.Medical.{medical_of, certified_by, approved_by, medical
 before_later : (t a b : ℕ) → ltb t (max a b) ≡ (ltb t b || ltb t a)
 before_later t a b = grind arith
 
+-- the same of x for a, where arithmetic shows that x is a, however it is written
+before_kept : {x : ℕ} (t a b : ℕ) (u v : Bool) → x ≡ a → ltb t b ≡ u → ltb t a ≡ v → ltb t (max x b) ≡ (u || v)
+before_kept t a b u v e f g = rw (e, before_later, f, g)
+
 -- the day past the end that an event of a kind sets, against a day not before it
 lasting : (k : Bool) (e : Event) (t : ℕ) → e.day ≤ t → ltb t (cond k (e.day + e.amount) 0) ≡ (k && covers e t)
 unfolding covers
@@ -37,7 +41,10 @@ lasting false e t l = le-ltb t 0 zero-le
 certified_is : (h : History) (t : ℕ) → Sorted h → last_posted h ≤ t → certified_by (medical_of h) t ≡ certified h t
 unfolding medical_of
 certified_is [] t s l = le-ltb t 0 zero-le
-certified_is (e ∷ h) t s l = rw (before_later, lasting (is certificate e) e t l, certified_is h t s.1 (omega arith))
+certified_is (e ∷ h) t s l =
+    on (is certificate e)
+    (λ q. rw q (before_kept t (medical_of h).certified_to _ _ _ (omega arith) (lasting true e t l) (certified_is h t s.1 (omega arith))))
+    (λ q. rw q (before_kept t (medical_of h).certified_to _ _ _ (omega arith) (lasting false e t l) (certified_is h t s.1 (omega arith))))
 
 approved_is : (h : History) (t : ℕ) → Sorted h → last_posted h ≤ t → approved_by (medical_of h) t ≡ approved h t
 unfolding medical_of
@@ -66,7 +73,10 @@ ends c (e ∷ h) w =
     let k = ends c h w.1 in
     let r = end_in certificate h e (passed h e w.0) in
     let a = end_in approval h e (passed h e w.0) in
-    record { certified_le = omega (arith, k.certified_le, r, longest_lem e.day); approved_le = on (is certificate e) (λ q. rw q zero-le) (λ q. rw q (omega arith)) }
+    record {
+      certified_le = on (is certificate e) (λ q. rw q (omega (arith, k.certified_le, rw q at r, longest_lem e.day))) (λ q. rw q (omega (arith, k.certified_le)));
+      approved_le = on (is certificate e) (λ q. rw q zero-le) (λ q. rw q (omega arith));
+    }
 
 -- ---- the law
 pub record MedicalLaw (h : History) : Type 0 where
