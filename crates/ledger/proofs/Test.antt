@@ -2,7 +2,7 @@
 use Rattle.std.proofs.lemmas.Grind.{common_steps}
 use Prim.Native.Nat.{ℕ, ◌-◌}
 use mathlib.Core.Path.{◌≡◌}
-use mathlib.Core.Bool.{true}
+use mathlib.Core.Bool.{true, false, ◌||◌}
 use mathlib.Core.List.{[], ◌∷◌}
 use native.Mathlib.Omega.{arith}
 use lib.Dec.{leb}
@@ -10,6 +10,9 @@ use borrow.Author.Tests.{leb-true}
 use Rattle.basics.proofs.Cases.{links}
 use Rattle.rules.specs.declared.Event.{Event}
 use Rattle.rules.specs.declared.View.{View}
+use Rattle.rules.specs.Kinds.{payment, payout}
+use Rattle.rules.specs.History.{is, amount_if}
+use Rattle.rules.specs.Deposit.{moves}
 use Rattle.rules.specs.Money.{charges, credit_by}
 use Rattle.rules.specs.Limits.{limit, most_open}
 use Rattle.rules.specs.Table.{charge_of, credit_of}
@@ -30,6 +33,10 @@ ledger_fit l e =
       open_le = leb-true _ _ r.1.1.1.1.1.0;
       still = still_settled l r.1.1.1.1.1.1.0;
     }
+
+-- for the reader: what charges is no payment, moves no deposit and pays nothing out
+pub charging : (e : Event) → charges e ≡ true → ((is payment e || moves e) ≡ false) × (amount_if payout e ≡ 0)
+charging e c = grind (arith, common_steps)
 
 -- for the reader: every event does one thing at most, whatever the deposit held
 pub one_thing : (held : ℕ) (e : Event) → OneThing e (charges e) (credit_by held e)

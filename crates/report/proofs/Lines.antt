@@ -93,6 +93,21 @@ pub standing_length : (i : ℕ) (s : Standing) → length (standing_line i s)
     (length (decimal s.open_count) + length (word_of s.service) + length (decimal s.refused)) + 6
 standing_length i s = ap length (standing_line_lem i s) ∙ line_length i (sub_ℕ s.charged s.credits) s.held s.open_count s.service s.refused
 
+-- for the reader: of numbers of 64 bits no line is longer than 113 bytes
+pub standing_short : (i : ℕ) (s : Standing) → i < 2 ^ 64 → s.charged < 2 ^ 64 → s.credits < 2 ^ 64 → s.held < 2 ^ 64 → s.open_count < 2 ^ 64
+    → s.refused < 2 ^ 64 → length (standing_line i s) ≤ 113
+standing_short i s p q r t u v =
+    omega (
+      arith,
+      standing_length i s,
+      decimal_short i p,
+      difference_short s.charged s.credits q r,
+      decimal_short s.held t,
+      decimal_short s.open_count u,
+      word_short s.service,
+      decimal_short s.refused v,
+    )
+
 -- every number of a lawful history fits 64 bits
 module _ (h : History) (w : Lawful None h) where
   owed_short : length (signed_decimal (owed h)) ≤ 21

@@ -1,8 +1,9 @@
--- The rows from 5 on of a kind that is not known, none; and of a bill or a fee.
-use Rattle.std.proofs.Common.{ℕ, ◌≤◌, ◌≡◌, true, false, eqb, arith}
+-- The rows from 5 on, kind by kind; none concerns a kind that is not known.
+use Rattle.std.proofs.Common.{ℕ, ◌≤◌, ◌≡◌, ◌-◌, true, false, cond, eqb, ltb, arith}
+use lib.Dec.{leb}
 use Rattle.std.proofs.Common.{min, inl, inr, ◌⊎◌}
-use mathlib.Core.Bool.{or-false}
-use native.Mathlib.Nat.{zero-add}
+use mathlib.Core.Bool.{or-false, not, ◌||◌}
+use native.Mathlib.Nat.{zero-add, add-zero}
 use borrow.Author.Tests.{ne_eqb, le-leb}
 use Rattle.rules.specs.declared.Event.{Event}
 use Rattle.rules.specs.declared.View.{View}
@@ -23,9 +24,10 @@ use Rattle.rules.specs.Kinds.{
   reconnection,
   closing,
 }
+use Rattle.rules.specs.Service.{is_on}
 use Rattle.rules.specs.Table.{charge_of}
 use Rattle.basics.specs.Machine.{largest}
-use Rattle.table.specs.ByKind.{from_row5, item_rows, moved_rows, cut_rows, reconnection_rows}
+use Rattle.table.specs.ByKind.{from_row5, item_rows, credit_rows, returned_rows, moved_rows, notice_rows, cut_rows, reconnection_rows}
 use Rattle.table.proofs.Equations.{passing}
 
 -- it is none of the sixteen
@@ -97,10 +99,48 @@ unfolding from_row5
 of_item v e charge w (inl z) = rw (w, passing v.charged (charge_of v e)) (simp (z, or-false))
 of_item v e charge w (inr z) = rw (w, passing v.charged (charge_of v e)) (simp (z, or-false))
 
--- ---- the rows of three kinds more, which the check of the code finds without them
+-- ---- for the reader: the rows of each other kind, which the check of the code finds without them
+pub of_payment : (v : View) (e : Event) → e.kind ≡ payment → credit_rows v.credited e.amount ≡ from_row5 v e
+unfolding from_row5
+of_payment v e z = simp (z, add-zero)
+
+pub of_asked : (v : View) (e : Event) → e.kind ≡ deposit_asked → cond (leb e.amount v.held) 7 0 ≡ from_row5 v e
+unfolding from_row5
+of_asked v e z = simp (z, or-false)
+
+pub of_paid : (v : View) (e : Event) → e.kind ≡ deposit_paid → cond (ltb (v.required - v.held) e.amount) 7 0 ≡ from_row5 v e
+unfolding from_row5
+of_paid v e z = simp (z, or-false)
+
 pub of_moved : (v : View) (e : Event) → e.kind ≡ deposit_moved → moved_rows v ≡ from_row5 v e
 unfolding from_row5
 of_moved v e z = simp (z, zero-add)
+
+pub of_payout : (v : View) (e : Event) → e.kind ≡ payout → cond (ltb (v.credits - v.charged) e.amount) 7 0 ≡ from_row5 v e
+unfolding from_row5
+of_payout v e z = simp (z, or-false)
+
+pub of_arrangement : (v : View) (e : Event) → e.kind ≡ arrangement → cond (eqb v.arrears 0 || v.in_force) 9 0 ≡ from_row5 v e
+unfolding from_row5
+of_arrangement v e z = rw z
+
+pub of_call : (v : View) (e : Event) → e.kind ≡ call → cond (not (is_on v.service)) 5 0 ≡ from_row5 v e
+unfolding from_row5
+of_call v e z = simp (z, or-false)
+
+pub of_closing : (v : View) (e : Event) → e.kind ≡ closing → credit_rows v.credited v.held ≡ from_row5 v e
+unfolding from_row5
+of_closing v e z = simp (z, zero-add)
+
+pub of_returned : (v : View) (e : Event) (charge : ℕ) → charge ≡ min (charge_of v e) largest → e.kind ≡ returned_payment
+    → returned_rows v charge ≡ from_row5 v e
+unfolding from_row5
+of_returned v e charge w z = rw (w, passing v.charged (charge_of v e)) (simp (z, or-false))
+
+pub of_notice : (v : View) (e : Event) (charge : ℕ) → charge ≡ min (charge_of v e) largest → e.kind ≡ final_notice
+    → notice_rows v charge ≡ from_row5 v e
+unfolding from_row5
+of_notice v e charge w z = rw (w, passing v.charged (charge_of v e)) (simp (z, or-false))
 
 pub of_disconnection : (v : View) (e : Event) → e.kind ≡ disconnection → cut_rows v ≡ from_row5 v e
 unfolding from_row5

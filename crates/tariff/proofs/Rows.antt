@@ -13,6 +13,7 @@ use Rattle.rules.specs.declared.Block.{Block}
 use Rattle.rules.specs.declared.Line.{Line}
 use Rattle.rules.specs.Limits.{most_usage}
 use Rattle.rules.specs.Tariff.{limit_of, price_of, lines_from, energy_of, no_line}
+use Rattle.tariff.specs.Blocks.{start_of}
 
 -- a list is as long as its image: for an array of structs, `search (rules, length_of)`
 pub length_of : (A B : Type 0) (f : A → B) (l : List A) (n : ℕ) → length (map f l) ≡ n → length l ≡ n
@@ -22,6 +23,33 @@ length_of A B f l n e = sym (length-map l f) ∙ e
 pub lines_length : (from : ℕ) (row : List Block) (usage : ℕ) → length (lines_from from row usage) ≡ length row
 lines_length from [] usage = refl
 lines_length from (b ∷ row) usage = ap suc (lines_length (limit_of b) row usage)
+
+-- ---- for the reader: where a block begins, and its line, in a row of any length
+abbrev pub zero_block : Block
+zero_block = record { limit = 0; price = 0 }
+
+start_next : (row : List Block) (i : ℕ) → i < length row → start_of row (suc i) ≡ limit_of (get_or row i zero_block)
+start_next [] i l = absurd (not-suc-le-zero l)
+start_next (b ∷ row) zero l = refl
+start_next (b ∷ row) (suc i) l = start_next row i (le_of_suc-le-suc l)
+
+-- a block other than the first begins at the limit of the one before it
+pub start_at : (row : List Block) (i : ℕ) → 0 < i → i ≤ length row → start_of row i ≡ limit_of (get_or row (i - 1) zero_block)
+start_at row zero h l = absurd (not-suc-le-zero h)
+start_at row (suc i) h l = let z : suc i - 1 ≡ i = omega arith in start_next row i l ∙ rw z
+
+line_from : (from : ℕ) (row : List Block) (usage i : ℕ) → i < length row
+    → get_or (lines_from from row usage) i no_line
+    ≡ record { used = min usage (limit_of (get_or row i zero_block)) - get_or (from ∷ map limit_of row) i 0; price = price_of (get_or row i zero_block) }
+line_from from [] usage i l = absurd (not-suc-le-zero l)
+line_from from (b ∷ row) usage zero l = refl
+line_from from (b ∷ row) usage (suc i) l = line_from (limit_of b) row usage i (le_of_suc-le-suc l)
+
+-- line i: from where its block begins up to its limit
+pub line_at : (row : List Block) (usage i : ℕ) → i < length row
+    → get_or (lines_from 0 row usage) i no_line
+    ≡ record { used = min usage (limit_of (get_or row i zero_block)) - start_of row i; price = price_of (get_or row i zero_block) }
+line_at row usage i l = line_from 0 row usage i l
 
 -- ---- growth
 -- a row that grows with every kilowatt-hour: the limits rise up to the most usage, each price is at least 100

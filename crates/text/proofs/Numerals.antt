@@ -1,5 +1,5 @@
 -- Laws of decimal text: its length, how it is stored, and that it reads back as the number.
-use Rattle.std.proofs.Common.{◌≡◌, ℕ, zero, suc, ◌+◌, ◌-◌, ◌*◌, ◌/◌, ◌%◌, ◌^◌, ◌≤◌, ◌<◌, cond, List, ◌++◌, length, take, drop, refl, sym, ap, ◌∙◌, append_assoc, length-append, take-append-drop, ltb, None, Some, arith}
+use Rattle.std.proofs.Common.{◌≡◌, ℕ, zero, suc, ◌+◌, ◌-◌, ◌*◌, ◌/◌, ◌%◌, ◌^◌, ◌≤◌, ◌<◌, cond, List, ◌++◌, length, take, drop, refl, sym, ap, ◌∙◌, append_assoc, length-append, take-append-drop, ltb, None, Some, [], ◌∷◌, arith}
 use Rattle.std.specs.Prelude.{IfNone, IfSome}
 use Rattle.std.specs.declared.option.Option.{Option}
 use Rattle.std.specs.Option.{unwrap_or}
@@ -9,7 +9,9 @@ use Rattle.std.proofs.Math.IntN.{sub_ℕ}
 use Rattle.std.proofs.lemmas.Fmt.{decimal_digit, decimal_step, decimal_is_IsNumeral_wide, length-decimal-le}
 use Rattle.std.proofs.lemmas.List.{length_push}
 use Rattle.std.proofs.Math.Nat.{one-le-pow}
-use lib.Seq.{sets, sets-eq, drop-drop, length-sets}
+use lib.ListN.{set}
+use lib.Seq.{sets, sets-eq, set_comm, drop-drop, length-sets}
+use borrow.Author.Tests.{lt-ltb, le-ltb}
 use borrow.Rule.Slice.PartMut.{put_mid}
 use Rattle.basics.proofs.Cases.{on_lt}
 use Rattle.little.proofs.Stores.{sets_then}
@@ -32,6 +34,15 @@ pub width_told : (n : ℕ) (o : Option ℕ) → n < 2 ^ 64 → IfNone o (n ≡ 0
     → unwrap_or o 0 + 1 ≡ length (decimal n)
 width_told n None h z a b = omega (arith, ap length (decimal_digit n (omega arith)))
 width_told n (Some k) h z a b = sym (width_is k n h a b)
+
+-- for the reader: the text of a less b
+pub signed_below : (a b : ℕ) → a < b → signed_decimal (sub_ℕ a b) ≡ 45 ∷ decimal (b - a)
+signed_below a b h =
+    let e : suc (b - suc a) ≡ b - a = omega arith in
+    rw (lt-ltb a b h) (ap (λ n. 45 ∷ decimal n) e)
+
+pub signed_above : (a b : ℕ) → b ≤ a → signed_decimal (sub_ℕ a b) ≡ decimal (a - b)
+signed_above a b h = rw (le-ltb a b h)
 
 -- a less b, measured without storing it
 pub length_difference : (a b : ℕ) → length (signed_decimal (sub_ℕ a b)) ≡ cond (ltb a b) (1 + length (decimal (b - a))) (length (decimal (a - b)))
@@ -57,6 +68,13 @@ put_then x y o o1 o2 p q r a b =
 
 pub room_then : (x y o o1 : List ℕ) (p q : ℕ) → p + length (x ++ y) ≤ length o → Put x o o1 p q → q + length y ≤ length o1
 room_then x y o o1 p q h a = omega (arith, length-append x y, a.end, ap length a.bytes, length-sets o p x)
+
+-- for the reader: a byte stored behind a text, then the text
+pub sets_last : (x o : List ℕ) (p q d : ℕ) → q ≡ p + length x → sets (set o q d) p x ≡ sets o p (x ++ (d ∷ []))
+sets_last [] o p q d e = ap (λ k. set o k d) (e ∙ omega arith)
+sets_last (a ∷ x) o p q d e =
+    ap (λ l. sets l (suc p) x) (set_comm o q p d a (λ z. absurd (omega arith)))
+    ∙ sets_last x (set o p a) (suc p) q d (e ∙ omega arith)
 
 -- a text copied over a part of the bytes
 pub sets_mid : (o x : List ℕ) (p k : ℕ) → k ≡ length x → p + length x ≤ length o → put_mid p k o x ≡ sets o p x
